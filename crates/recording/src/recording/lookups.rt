@@ -1,0 +1,75 @@
+//! What can be looked up in a recording.
+ghost use mathlib.Core.Path.{_≡_};
+ghost use lib.ListN.{length};
+ghost use Rattle.recording.specs.Lookups.{OperationAnswer, EntryAnswer, Giver, SourceAnswer};
+ghost use Rattle.recording.specs.Telling.{recorded};
+use crate::operation::Kind;
+use crate::operation::Operation;
+use crate::recording::Recording;
+use crate::refusal::Refusal;
+use crate::stations::Entry;
+use crate::operation::KindPartialEq;
+
+impl Recording {
+    /// How many stations there are.
+    pub fn stations(&self) -> usize
+        ensures { λ r. ⌜ r ≡ recorded (now (self .entry)) .stations ⌝ }
+    {
+        self.stations as usize
+    }
+
+    /// How many operations there are.
+    pub fn count(&self) -> usize
+        ensures { λ r. ⌜ r ≡ length (recorded (now (self .entry)) .operations) ⌝ }
+    {
+        self.count
+    }
+
+    /// The operation of that number.
+    pub fn operation(&self, number: usize) -> Option<Operation>
+        ensures { λ r. ⌜ OperationAnswer (recorded (now (self .entry)) .operations) number r ⌝ }
+    {
+        if number < self.count {
+            Some(self.operations[number])
+        } else {
+            None
+        }
+    }
+
+    /// What is kept of a station: its count of operations, and its last one.
+    pub fn entry(&self, station: usize) -> Option<Entry>
+        ensures { λ r. ⌜ EntryAnswer (recorded (now (self .entry))) station r ⌝ }
+    {
+        if station < self.stations as usize {
+            Some(self.table.entries[station])
+        } else {
+            None
+        }
+    }
+
+    // The write that gives the register the value.
+    pub(crate) fn giver(&self, register: u8, value: u32) -> Option<usize>
+        ensures { λ r. ⌜ Giver (recorded (now (self .entry)) .operations) register value r ⌝ }
+    {
+        for number in 0..self.count {
+            let operation = self.operations[number];
+            if operation.kind == Kind::Write
+                && operation.register == register
+                && operation.value == value
+            {
+                return Some(number);
+            }
+        }
+        None
+    }
+
+    /// The source of a read: the write that gives its register its value, wherever it stands. Refuses by 7.
+    pub fn source(&self, number: usize) -> Result<Option<usize>, Refusal>
+        ensures { λ r. ⌜ SourceAnswer (recorded (now (self .entry)) .operations) number r ⌝ }
+    {
+        match self.operation(number) {
+            Some(read) if read.kind == Kind::Read => Ok(self.giver(read.register, read.value)),
+            _ => Err(Refusal::NotARead),
+        }
+    }
+}
