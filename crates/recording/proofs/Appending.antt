@@ -55,13 +55,14 @@ module _ (ops : List Operation) (x : Operation) where
       P y = 1 ≤ y .value
 
   clash : (S a b : ℕ) → Allowed (record { stations = S; operations = ops }) x → a < length ops → b ≡ length ops
-    → IsWrite (ops ++ x ∷ []) a → IsWrite (ops ++ x ∷ []) b
-    → at (ops ++ x ∷ []) a .register ≡ at (ops ++ x ∷ []) b .register → at (ops ++ x ∷ []) a .value ≡ at (ops ++ x ∷ []) b .value → ⊥
+      → IsWrite (ops ++ x ∷ []) a → IsWrite (ops ++ x ∷ []) b
+      → at (ops ++ x ∷ []) a .register ≡ at (ops ++ x ∷ []) b .register → at (ops ++ x ∷ []) a .value ≡ at (ops ++ x ∷ []) b .value → ⊥
   clash S a b allowed o e wa wb r v =
       allowed .fresh (new-write b e wb) a (record {
         isWrite = old-write a o wa;
         register = ap (λ y. y .register) (sym (at-old a o)) ∙ r ∙ ap (λ y. y .register) (at-new b e);
-        value = ap (λ y. y .value) (sym (at-old a o)) ∙ v ∙ ap (λ y. y .value) (at-new b e) })
+        value = ap (λ y. y .value) (sym (at-old a o)) ∙ v ∙ ap (λ y. y .value) (at-new b e);
+      })
 
   pub apart-more : (S : ℕ) → Apart ops → Allowed (record { stations = S; operations = ops }) x → Apart (ops ++ x ∷ [])
   apart-more S apart allowed a b t = ⊎-elim (λ oa. ⊎-elim (old oa) (λ eb. absurd (clash S a b allowed oa eb (t .first) (t .second) (t .register) (t .value))) (either b (t .second .inside))) (λ ea. ⊎-elim (λ ob. absurd (clash S b a allowed ob ea (t .second) (t .first) (sym (t .register)) (sym (t .value)))) (λ eb. ea ∙ sym eb) (either b (t .second .inside))) (either a (t .first .inside))
@@ -71,7 +72,8 @@ module _ (ops : List Operation) (x : Operation) where
         first = old-write a oa (t .first);
         second = old-write b ob (t .second);
         register = ap (λ y. y .register) (sym (at-old a oa)) ∙ t .register ∙ ap (λ y. y .register) (at-old b ob);
-        value = ap (λ y. y .value) (sym (at-old a oa)) ∙ t .value ∙ ap (λ y. y .value) (at-old b ob) })
+        value = ap (λ y. y .value) (sym (at-old a oa)) ∙ t .value ∙ ap (λ y. y .value) (at-old b ob);
+      })
 
 pub tally-more : (ops : List Operation) (x : Operation) (s : ℕ) → tally (ops ++ x ∷ []) s ≡ tally ops s + cond (eqb (x .station) s) 1 0
 unfolding tally
@@ -84,7 +86,7 @@ tally-few [] s = omega arith
 tally-few (y ∷ ops) s = let r = tally-few ops s in ⊎-elim (λ e. let z = cond-true {A = ℕ} (eqb (y .station) s) 1 0 e in omega arith) (λ e. let z = cond-false {A = ℕ} (eqb (y .station) s) 1 0 e in omega arith) (cases-bool (eqb (y .station) s))
 
 pub last-more : (so-far : Option ℕ) (i : ℕ) (ops : List Operation) (x : Operation) (s : ℕ)
-  → lastFrom so-far i (ops ++ x ∷ []) s ≡ cond (eqb (x .station) s) (Some (i + length ops)) (lastFrom so-far i ops s)
+    → lastFrom so-far i (ops ++ x ∷ []) s ≡ cond (eqb (x .station) s) (Some (i + length ops)) (lastFrom so-far i ops s)
 unfolding lastFrom
 last-more so-far i [] x s = ap (λ n. cond (eqb (x .station) s) (Some n) so-far) (omega arith)
 last-more so-far i (y ∷ ops) x s = last-more (cond (eqb (y .station) s) (Some i) so-far) (suc i) ops x s ∙ ap (λ n. cond (eqb (x .station) s) (Some n) (lastFrom (cond (eqb (y .station) s) (Some i) so-far) (suc i) ops s)) (omega arith)
@@ -101,7 +103,7 @@ same-is (Some a) (Some b) e = ap Some (eqb-true a b e)
 
 -- the entry of the new operation's station, and those of the others
 pub kept-more : (ops : List Operation) (x : Operation) (es : List Entry) → length es ≡ 16 → x .station < 16 → Kept ops es
-  → Kept (ops ++ x ∷ []) (set es (x .station) (record { count = entryAt es (x .station) .count + 1; last = Some (length ops) }))
+    → Kept (ops ++ x ∷ []) (set es (x .station) (record { count = entryAt es (x .station) .count + 1; last = Some (length ops) }))
 kept-more ops x es long low kept s h = ⊎-elim here there (cases-eq s (x .station))
   where
     new : Entry
@@ -112,24 +114,27 @@ kept-more ops x es long low kept s h = ⊎-elim here there (cases-eq s (x .stati
 
     here : s ≡ x .station → Right (entryAt (set es (x .station) new) s)
     here e =
-      let t : eqb (x .station) s ≡ true = eq-eqb _ _ (sym e) in
-      let k : entryAt es (x .station) .count ≡ tally ops s = subst (λ z. entryAt es z .count ≡ tally ops s) e (kept s h .0) in
-      subst Right (sym (ap (entryAt (set es (x .station) new)) e ∙ getD-set-same es (x .station) new _ (omega arith))) (
-        omega (arith, tally-more ops x s, cond-true {A = ℕ} (eqb (x .station) s) 1 0 t),
-        ap (same (Some (length ops))) (last-more None 0 ops x s ∙ cond-true (eqb (x .station) s) (Some (0 + length ops)) (lastFrom None 0 ops s) t ∙ ap Some (omega arith)) ∙ same-refl (Some (length ops)))
+        let t : eqb (x .station) s ≡ true = eq-eqb _ _ (sym e) in
+        let k : entryAt es (x .station) .count ≡ tally ops s = subst (λ z. entryAt es z .count ≡ tally ops s) e (kept s h .0) in
+        subst Right (sym (ap (entryAt (set es (x .station) new)) e ∙ getD-set-same es (x .station) new _ (omega arith))) (
+          omega (arith, tally-more ops x s, cond-true {A = ℕ} (eqb (x .station) s) 1 0 t),
+          ap (same (Some (length ops))) (last-more None 0 ops x s ∙ cond-true (eqb (x .station) s) (Some (0 + length ops)) (lastFrom None 0 ops s) t ∙ ap Some (omega arith)) ∙ same-refl (Some (length ops)),
+        )
 
     there : (s ≡ x .station → ⊥) → Right (entryAt (set es (x .station) new) s)
     there n =
-      let t : eqb (x .station) s ≡ false = ne-eqb _ _ (λ e. n (sym e)) in
-      subst Right (sym (getD-set-other es (x .station) s new _ n)) (
-        omega (arith, kept s h .0, tally-more ops x s, cond-false {A = ℕ} (eqb (x .station) s) 1 0 t),
-        ap (same (entryAt es s .last)) (last-more None 0 ops x s ∙ cond-false (eqb (x .station) s) (Some (0 + length ops)) (lastFrom None 0 ops s) t) ∙ kept s h .1)
+        let t : eqb (x .station) s ≡ false = ne-eqb _ _ (λ e. n (sym e)) in
+        subst Right (sym (getD-set-other es (x .station) s new _ n)) (
+          omega (arith, kept s h .0, tally-more ops x s, cond-false {A = ℕ} (eqb (x .station) s) 1 0 t),
+          ap (same (entryAt es s .last)) (last-more None 0 ops x s ∙ cond-false (eqb (x .station) s) (Some (0 + length ops)) (lastFrom None 0 ops s) t) ∙ kept s h .1,
+        )
 
 last-here : (ops : List Operation) (x : Operation) (s : ℕ) → x .station ≡ s → LastOf (ops ++ x ∷ []) s (Some (length ops))
 last-here ops x s e = (
   omega (arith, length-push ops x),
   ap (λ y. y .station) (at-new ops x (length ops) refl) ∙ e,
-  λ i more inside. absurd (omega (arith, length-push ops x)))
+  λ i more inside. absurd (omega (arith, length-push ops x)),
+)
 
 last-there : (ops : List Operation) (x : Operation) (s : ℕ) (o : Option ℕ) → ¬ (x .station ≡ s) → LastOf ops s o → LastOf (ops ++ x ∷ []) s o
 last-there ops x s None n none =
@@ -138,7 +143,8 @@ last-there ops x s (Some k) n last = (
   omega (arith, last .0, length-push ops x),
   ap (λ y. y .station) (at-old ops x k (last .0)) ∙ last .1,
   λ i more h.
-    ⊎-elim (λ o e. last .2 i more o (ap (λ y. y .station) (sym (at-old ops x i o)) ∙ e)) (λ l e. n (ap (λ y. y .station) (sym (at-new ops x i l)) ∙ e)) (either ops x i h))
+      ⊎-elim (λ o e. last .2 i more o (ap (λ y. y .station) (sym (at-old ops x i o)) ∙ e)) (λ l e. n (ap (λ y. y .station) (sym (at-new ops x i l)) ∙ e)) (either ops x i h),
+)
 
 last-step : (ops : List Operation) (x : Operation) (s : ℕ) (o : Option ℕ) → LastOf ops s o → LastOf (ops ++ x ∷ []) s (cond (eqb (x .station) s) (Some (length ops)) o)
 last-step ops x s o last = ⊎-elim yes′ no′ (cases-bool (eqb (x .station) s))
@@ -155,7 +161,7 @@ last-all done [] s n o e last = subst (λ l. LastOf l s o) (sym (append-nil done
 last-all done (x ∷ rest) s n o e last =
     subst (λ l. LastOf l s (lastFrom o n (x ∷ rest) s)) (append-assoc done (x ∷ []) rest)
     (last-all (done ++ x ∷ []) rest s (suc n) (cond (eqb (x .station) s) (Some n) o) (omega (arith, length-push done x))
-      (subst (λ k. LastOf (done ++ x ∷ []) s (cond (eqb (x .station) s) (Some k) o)) (sym e) (last-step done x s o last)))
+    (subst (λ k. LastOf (done ++ x ∷ []) s (cond (eqb (x .station) s) (Some k) o)) (sym e) (last-step done x s o last)))
 
 -- what `lastFrom` finds is the last one
 pub last-of : (ops : List Operation) (s : ℕ) → LastOf ops s (lastFrom None 0 ops s)

@@ -48,8 +48,8 @@ written-false [] reg v none = refl
 written-false (x ∷ xs) reg v none =
     or-from (gives x reg v) (written xs reg v)
     (⊎-elim
-      (λ e. let p = gives-parts x reg v e in absurd (none 0 (record { isWrite = record { inside = omega arith; kind = p .0 }; register = p .1; value = p .2 })))
-      (λ e. e) (cases-bool (gives x reg v)))
+    (λ e. let p = gives-parts x reg v e in absurd (none 0 (record { isWrite = record { inside = omega arith; kind = p .0 }; register = p .1; value = p .2 })))
+    (λ e. e) (cases-bool (gives x reg v)))
     (written-false xs reg v (λ w g. none (suc w) (record { isWrite = record { inside = omega (arith, g .isWrite .inside); kind = g .isWrite .kind }; register = g .register; value = g .value })))
 
 -- whether a write was found says whether the value was written

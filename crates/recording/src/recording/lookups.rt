@@ -4,11 +4,11 @@ ghost use lib.ListN.{length};
 ghost use Rattle.recording.specs.Lookups.{OperationAnswer, EntryAnswer, Giver, SourceAnswer};
 ghost use Rattle.recording.specs.Telling.{recorded};
 use crate::operation::Kind;
+use crate::operation::KindPartialEq;
 use crate::operation::Operation;
 use crate::recording::Recording;
 use crate::refusal::Refusal;
 use crate::stations::Entry;
-use crate::operation::KindPartialEq;
 
 impl Recording {
     /// How many stations there are.

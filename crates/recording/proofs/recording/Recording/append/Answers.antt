@@ -25,13 +25,31 @@ ghost-self c =
     let ops = take (r .count) (r .operations) in
     let long = length-take-le (r .count) (r .operations) (omega arith) in
     let more : take (r .count + 1) (set (r .operations) (r .count) x) ≡ ops ++ x ∷ [] = take-more-set (r .operations) (r .count) x (omega arith) in
-    let noted : c .note .last .self .entries ≡ set (r .table .entries) (x .station) (record { count = entryAt (r .table .entries) (x .station) .count + 1; last = Some (length ops) }) = c .note .ensures .noted ∙ ap (λ n. set (r .table .entries) (x .station) (record { count = entryAt (r .table .entries) (x .station) .count + 1; last = Some n })) (sym long) in
-    (r .some, (r .most, (omega arith, (length-set (r .operations) (r .count) x ∙ r .room, (
-      subst (InRange (r .stations)) (sym more) (in-range-more ops x (r .stations) (r .range) (c .pre .allowed)), (
-      subst NonZero (sym more) (nonzero-more ops x (r .stations) (r .nonzero) (c .pre .allowed)), (
-      subst Apart (sym more) (apart-more ops x (r .stations) (r .apart) (c .pre .allowed)), (
-      subst (λ l. Kept l (c .note .last .self .entries)) (sym more) (subst (Kept (ops ++ x ∷ [])) (sym noted) (kept-more ops x (r .table .entries) (c .note .ensures .sixteen) (omega arith) (r .kept))),
-      tt))))))))
+    let noted : c .note .last .self .entries ≡ set (r .table .entries) (x .station) (record { count = entryAt (r .table .entries) (x .station) .count + 1; last = Some (length ops) }) = c .note .ensures .noted ∙ ap (λ n. set (r .table .entries) (x .station) (record { count = entryAt (r .table .entries) (x .station) .count + 1; last = Some n })) (sym long) in (
+      r .some,
+      (
+        r .most,
+        (
+          omega arith,
+          (
+            length-set (r .operations) (r .count) x ∙ r .room,
+            (
+              subst (InRange (r .stations)) (sym more) (in-range-more ops x (r .stations) (r .range) (c .pre .allowed)),
+              (
+                subst NonZero (sym more) (nonzero-more ops x (r .stations) (r .nonzero) (c .pre .allowed)),
+                (
+                  subst Apart (sym more) (apart-more ops x (r .stations) (r .apart) (c .pre .allowed)),
+                  (
+                    subst (λ l. Kept l (c .note .last .self .entries)) (sym more) (subst (Kept (ops ++ x ∷ [])) (sym noted) (kept-more ops x (r .table .entries) (c .note .ensures .sixteen) (omega arith) (r .kept))),
+                    tt,
+                  ),
+                ),
+              ),
+            ),
+          ),
+        ),
+      ),
+    )
 
 pub returns : need.returns
 returns c =

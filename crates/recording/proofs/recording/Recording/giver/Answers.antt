@@ -25,9 +25,10 @@ loop-number-again c =
     let r = c .args .self .now in
     let front = at-front (r .count) (r .operations) (c .loop-number .number) (c .loop-number-test .taken) in
     below-more _ _ (c .loop-number .inv) (λ g. elim (c .else-eq .came) [
-      else-eq·by·then-eq·then-operation-register·else-operation-value w ↦ w .if-operation-value .left (ap (λ y. y .value) (sym front) ∙ g .value)
+      | else-eq·by·then-eq·then-operation-register·else-operation-value w ↦ w .if-operation-value .left (ap (λ y. y .value) (sym front) ∙ g .value)
       | else-eq·by·then-eq·else-operation-register w ↦ w .if-operation-register .left (ap (λ y. y .register) (sym front) ∙ g .register)
-      | else-eq·by·else-eq w ↦ w .if-eq .ensures tt (ap (λ y. y .kind) (sym front) ∙ g .isWrite .kind) ])
+      | else-eq·by·else-eq w ↦ w .if-eq .ensures tt (ap (λ y. y .kind) (sym front) ∙ g .isWrite .kind)
+    ])
 
 pub returns : need.returns
 returns c =

@@ -14,7 +14,7 @@ returns-then-is-some c =
     let ops = take (c .args .self .now .count) (c .args .self .now .operations) in
     let room : length ops < 256 = omega (arith, length-take-le (c .args .self .now .count) (c .args .self .now .operations) (omega arith)) in
     let told : written ops (c .args .register) (c .args .value) ≡ true =
-      written-found ops (c .args .register) (c .args .value) (c .giver .result) (c .giver .ensures) ∙ sym (c .if-is-some .ensures tt) in
+    written-found ops (c .args .register) (c .args .value) (c .giver .result) (c .giver .ensures) ∙ sym (c .if-is-some .ensures tt) in
     (grind (arith, tells), refl)
 
 pub returns : need.returns
@@ -22,5 +22,5 @@ returns c =
     let ops = take (c .args .self .now .count) (c .args .self .now .operations) in
     let room : length ops < 256 = omega (arith, length-take-le (c .args .self .now .count) (c .args .self .now .operations) (omega arith)) in
     let told : written ops (c .args .register) (c .args .value) ≡ false =
-      written-found ops (c .args .register) (c .args .value) (c .giver .result) (c .giver .ensures) ∙ sym (c .if-is-some .ensures tt) in
+    written-found ops (c .args .register) (c .args .value) (c .giver .result) (c .giver .ensures) ∙ sym (c .if-is-some .ensures tt) in
     (grind (arith, tells), c .append .ensures .number, c .append .ensures .after)

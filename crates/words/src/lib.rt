@@ -1,0 +1,12 @@
+//! Recordings as words of 32 bits: the reader, load and save, and whole runs of calls.
+pub mod fault;
+pub mod field;
+pub mod kind;
+pub mod reader;
+pub mod record;
+
+pub use fault::Fault;
+pub use fault::Misread;
+pub use reader::Reader;
+pub use record::Placed;
+pub use record::Record;
