@@ -2,11 +2,14 @@
 pub mod fault;
 pub mod field;
 pub mod kind;
+pub mod loading;
 pub mod reader;
 pub mod record;
 
 pub use fault::Fault;
 pub use fault::Misread;
+pub use loading::LoadRefusal;
+pub use loading::load;
 pub use reader::Reader;
 pub use record::Placed;
 pub use record::Record;

@@ -8,9 +8,10 @@ use Rattle.words.proofs.Reading.{tells-few}
 use Rattle.words.proofs.reader.Reader.pass.Needs as need
 
 pub ghost-self : need.ghost-self
-ghost-self c =
-    (omega (arith, c .pre, length-drop (c .args .self .now .place) (c .args .self .now .words .now)),
-    (omega (arith, tells-few (heard (c .args .passed))), tt))
+ghost-self c = (
+  omega (arith, c .pre, length-drop (c .args .self .now .place) (c .args .self .now .words .now)),
+  (omega (arith, tells-few (heard (c .args .passed))), tt),
+)
 
 pub returns : need.returns
 returns c =
