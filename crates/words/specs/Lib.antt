@@ -2,3 +2,4 @@ pub mod Faults
 pub mod Layout
 pub mod Reading
 pub mod Loading
+pub mod Saving

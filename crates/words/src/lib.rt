@@ -5,6 +5,7 @@ pub mod kind;
 pub mod loading;
 pub mod reader;
 pub mod record;
+pub mod saving;
 
 pub use fault::Fault;
 pub use fault::Misread;
@@ -13,3 +14,5 @@ pub use loading::load;
 pub use reader::Reader;
 pub use record::Placed;
 pub use record::Record;
+pub use saving::SaveRefusal;
+pub use saving::save;

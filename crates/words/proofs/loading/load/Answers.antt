@@ -23,8 +23,10 @@ pub returns-in-rest : need.returns-in-rest
 returns-in-rest c =
     let next = subst (λ o. Next (reading (c .records .reader)) (Ok o) (reading (c .next .last .self))) (c .in-rest .is) (c .in-Ok .ensures tt) in
     let all = loads-all (reading (c .records .reader)) (recorded (c .records .recording)) (next .0) (next .1) in
-    inr (c .if-words-gt1024 .left,
-      subst (λ n. LoadsFrom (atStart (c .args .words .now)) (recorded (c .args .recording .now)) (Ok n) (recorded (c .records .recording))) (sym (c .count .ensures)) (c .records .inv _ _ all))
+    inr (
+      c .if-words-gt1024 .left,
+      subst (λ n. LoadsFrom (atStart (c .args .words .now)) (recorded (c .args .recording .now)) (Ok n) (recorded (c .records .recording))) (sym (c .count .ensures)) (c .records .inv _ _ all),
+    )
 
 pub returns-in-Err-tell-record : need.returns-in-Err-tell-record
 returns-in-Err-tell-record c =
@@ -33,9 +35,11 @@ returns-in-Err-tell-record c =
     let next = subst (λ o. Next r (Ok o) (reading (c .next .last .self))) (c .in-Some .is) (c .in-Ok .ensures tt) in
     let refused = c .in-Err-tell-record .ensures tt in
     let ends = loads-refused r b (heard (c .in-Some .placed .record)) (c .in-Err-tell-record .refusal) (next .0) (next .1) (refused .0) in
-    inr (c .if-words-gt1024 .left,
+    inr (
+      c .if-words-gt1024 .left,
       subst₂ (λ p a. LoadsFrom (atStart (c .args .words .now)) (recorded (c .args .recording .now)) (Err (Recording (c .in-Err-tell-record .refusal) p)) a)
-        (sym (next .2)) (sym (refused .1)) (c .records .inv _ _ ends))
+          (sym (next .2)) (sym (refused .1)) (c .records .inv _ _ ends),
+    )
 
 pub records-less : need.records-less
 records-less c =
@@ -51,4 +55,4 @@ records-again c answer after loads =
     let next = subst (λ o. Next r (Ok o) (reading (c .next .last .self))) (c .in-Some .is) (c .in-Ok .ensures tt) in
     let taken = c .in-rest-tell-record .ensures tt in
     c .records .inv answer after
-      (loads-more r b s answer after (next .0) (next .1) (taken .0) (subst₂ (λ z a. LoadsFrom z a answer after) (next .3) (taken .1) loads))
+    (loads-more r b s answer after (next .0) (next .1) (taken .0) (subst₂ (λ z a. LoadsFrom z a answer after) (next .3) (taken .1) loads))
