@@ -9,8 +9,10 @@ use Rattle.recording.specs.declared.operation.Kind.{Kind}
 use Rattle.recording.specs.declared.operation.Kind.the-variants.{Write, Read}
 use Rattle.recording.specs.declared.operation.Operation.{Operation}
 use Rattle.recording.specs.Telling.{Recorded}
+use Rattle.words.specs.declared.loading.LoadRefusal.{LoadRefusal}
 use Rattle.words.specs.declared.saving.SaveRefusal.{SaveRefusal}
 use Rattle.words.specs.declared.saving.SaveRefusal.the-variants.{TooShort}
+use Rattle.words.specs.Loading.{Loads}
 
 abbrev pub openingWord : ℕ → ℕ
 openingWord stations = 3 * 2 ^ 30 + stations
@@ -36,3 +38,12 @@ Saves r before (Err TooShort) after = (length before < length (r .operations) + 
 
 abbrev pub numberOf : SaveRefusal → ℕ
 numberOf TooShort = 8
+
+-- the words of a recording load back as that recording, whatever was there before
+abbrev pub LoadsBack : Recorded → Type 0
+LoadsBack r = (before : Recorded) (answer : Result ℕ LoadRefusal) (after : Recorded) → Loads before (wordsOf r) answer after → (answer ≡ Ok (length (r .operations))) × (after ≡ r)
+
+-- what a copy through words holds
+abbrev pub Copied : Recorded → Recorded → Result ℕ SaveRefusal → Recorded → Type 0
+Copied r before (Ok n) after = after ≡ r
+Copied r before (Err e) after = after ≡ before

@@ -15,4 +15,5 @@ pub use reader::Reader;
 pub use record::Placed;
 pub use record::Record;
 pub use saving::SaveRefusal;
+pub use saving::copy;
 pub use saving::save;

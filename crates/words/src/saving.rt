@@ -2,7 +2,8 @@
 ghost use mathlib.Core.Path.{_≡_};
 ghost use Prim.Native.Nat.{_^_, _<_, _≤_};
 ghost use Rattle.recording.specs.Telling.{recorded};
-ghost use Rattle.words.specs.Saving.{openingWord, operationWord, closingWord, Saves, numberOf};
+ghost use Rattle.words.specs.Saving.{openingWord, operationWord, closingWord, Saves, LoadsBack, Copied, numberOf};
+use crate::loading::load;
 use recording::Kind;
 use recording::Operation;
 use recording::Recording;
@@ -42,6 +43,23 @@ pub fn save(recording: &Recording, words: &mut [u32]) -> Result<usize, SaveRefus
     }
     words[count + 1] = 7 << 29 | count as u32;
     Ok(count + 2)
+}
+
+/// Saves the recording to `words`, and loads the copy from there: it is equal then. Answers the count of words.
+pub fn copy(
+    recording: &Recording,
+    words: &mut [u32],
+    copied: &mut Recording,
+) -> Result<usize, SaveRefusal>
+    ensures saved { λ r. ⌜ Saves (recorded (now (recording .entry))) (now (words .entry)) r (now (words .exit)) ⌝ }
+    ensures equal { λ r. ⌜ Copied (recorded (now (recording .entry))) (recorded (now (copied .entry))) r (recorded (now (copied .exit))) ⌝ }
+    ensures loads_back { λ _. ⌜ LoadsBack (recorded (now (recording .entry))) ⌝ }
+{
+    let count = save(recording, words)?;
+    match load(copied, &words[0..count]) {
+        Ok(_) => Ok(count),
+        Err(_) => unreachable(),
+    }
 }
 
 // The word of an operation.
