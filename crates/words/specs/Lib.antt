@@ -3,3 +3,5 @@ pub mod Layout
 pub mod Reading
 pub mod Loading
 pub mod Saving
+pub mod Calls
+pub mod Runs

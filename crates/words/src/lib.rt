@@ -1,4 +1,5 @@
 //! Recordings as words of 32 bits: the reader, load and save, and whole runs of calls.
+pub mod calls;
 pub mod fault;
 pub mod field;
 pub mod kind;
@@ -7,6 +8,10 @@ pub mod reader;
 pub mod record;
 pub mod saving;
 
+pub use calls::Answer;
+pub use calls::Call;
+pub use calls::tell;
+pub use calls::told;
 pub use fault::Fault;
 pub use fault::Misread;
 pub use loading::LoadRefusal;
