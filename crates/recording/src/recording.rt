@@ -8,6 +8,7 @@ use crate::operation::Operation;
 use crate::stations::Stations;
 
 mod lookups;
+mod size;
 mod telling;
 
 /// The stations and the operations that were told, with an entry for each station.

@@ -1,6 +1,4 @@
 //! What can be looked up in a recording.
-ghost use mathlib.Core.Path.{_≡_};
-ghost use lib.ListN.{length};
 ghost use Rattle.recording.specs.Lookups.{OperationAnswer, EntryAnswer, Giver, SourceAnswer};
 ghost use Rattle.recording.specs.Telling.{recorded};
 use crate::operation::Kind;
@@ -11,20 +9,6 @@ use crate::refusal::Refusal;
 use crate::stations::Entry;
 
 impl Recording {
-    /// How many stations there are.
-    pub fn stations(&self) -> usize
-        ensures { λ r. ⌜ r ≡ recorded (now (self .entry)) .stations ⌝ }
-    {
-        self.stations as usize
-    }
-
-    /// How many operations there are.
-    pub fn count(&self) -> usize
-        ensures { λ r. ⌜ r ≡ length (recorded (now (self .entry)) .operations) ⌝ }
-    {
-        self.count
-    }
-
     /// The operation of that number.
     pub fn operation(&self, number: usize) -> Option<Operation>
         ensures { λ r. ⌜ OperationAnswer (recorded (now (self .entry)) .operations) number r ⌝ }
