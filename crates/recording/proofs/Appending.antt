@@ -19,6 +19,7 @@ use Rattle.recording.specs.Operations.{writeOf, at, IsWrite, Gives, Twins}
 use Rattle.recording.specs.Lawful.{InRange, NonZero, Apart}
 use Rattle.recording.specs.Stations.{entryAt, tally, lastFrom, entryOf, same, Kept, LastOf}
 use Rattle.recording.specs.Telling.{Recorded, Allowed}
+use Rattle.recording.proofs.Operations.{not-written}
 
 module _ (ops : List Operation) (x : Operation) where
   pub at-old : (i : ℕ) → i < length ops → at (ops ++ x ∷ []) i ≡ at ops i
@@ -58,7 +59,7 @@ module _ (ops : List Operation) (x : Operation) where
       → IsWrite (ops ++ x ∷ []) a → IsWrite (ops ++ x ∷ []) b
       → at (ops ++ x ∷ []) a .register ≡ at (ops ++ x ∷ []) b .register → at (ops ++ x ∷ []) a .value ≡ at (ops ++ x ∷ []) b .value → ⊥
   clash S a b allowed o e wa wb r v =
-      allowed .fresh (new-write b e wb) a (record {
+      not-written ops (x .register) (x .value) (allowed .fresh (new-write b e wb)) a (record {
         isWrite = old-write a o wa;
         register = ap (λ y. y .register) (sym (at-old a o)) ∙ r ∙ ap (λ y. y .register) (at-new b e);
         value = ap (λ y. y .value) (sym (at-old a o)) ∙ v ∙ ap (λ y. y .value) (at-new b e);

@@ -57,6 +57,5 @@ pub written-found : (ops : List Operation) (reg v : ℕ) (o : Option ℕ) → Gi
 written-found ops reg v None none = written-false ops reg v none
 written-found ops reg v (Some w) g = written-true ops w reg v g
 
-pub none-found : (ops : List Operation) (reg v : ℕ) (o : Option ℕ) → Giver ops reg v o → isSome o ≡ false → (w : ℕ) → ¬ Gives ops w reg v
-none-found ops reg v None none e = none
-none-found ops reg v (Some w) g e = absurd (true≢false e)
+pub not-written : (ops : List Operation) (reg v : ℕ) → written ops reg v ≡ false → (w : ℕ) → ¬ Gives ops w reg v
+not-written ops reg v e w g = true≢false (sym (written-true ops w reg v g) ∙ e)

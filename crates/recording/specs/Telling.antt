@@ -16,7 +16,7 @@ use Rattle.recording.specs.declared.refusal.Refusal.{Refusal}
 use Rattle.recording.specs.declared.refusal.Refusal.the-variants.{StationCount, NoSuchStation, NoSuchRegister, ValueOutOfRange, Full, ValueRepeated}
 use Rattle.recording.specs.declared.recording.Recording.{Recording}
 use Rattle.recording.specs.Refusals.{first, _when_}
-use Rattle.recording.specs.Operations.{Gives, written}
+use Rattle.recording.specs.Operations.{written}
 
 -- what a recording is: its count of stations, and its operations in the order in which they were told
 pub record Recorded : Type 0 where
@@ -41,7 +41,7 @@ pub record Allowed (before : Recorded) (op : Operation) : Type 0 where
   pub register : op .register ≤ 63
   pub value : op .value ≤ 524287
   pub nonzero : op .kind ≡ Write → 1 ≤ op .value
-  pub fresh : op .kind ≡ Write → (w : ℕ) → ¬ Gives (before .operations) w (op .register) (op .value)
+  pub fresh : op .kind ≡ Write → written (before .operations) (op .register) (op .value) ≡ false
 
 -- why a start with so many stations is refused
 abbrev pub startGround : ℕ → Option Refusal

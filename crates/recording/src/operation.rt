@@ -1,14 +1,14 @@
 //! One operation of a recording.
 
 /// What an operation does with its register.
-#[derive(Clone, Copy, PartialEq, Eq, Debug)]
+#[derive(Clone, Copy, PartialEq, Eq)]
 pub enum Kind {
     Write,
     Read,
 }
 
 /// A write or a read by one station of one register, with the value written or read.
-#[derive(Clone, Copy, PartialEq, Eq, Debug)]
+#[derive(Clone, Copy)]
 pub struct Operation {
     pub kind: Kind,
     pub station: u8,

@@ -6,7 +6,7 @@ ghost use Rattle.std.specs.declared.option.Option.the-variants.{Some, None};
 ghost use Rattle.recording.specs.Stations.{entryAt};
 
 /// A station's count of operations, and the number of its last one.
-#[derive(Clone, Copy, PartialEq, Eq, Debug)]
+#[derive(Clone, Copy)]
 pub struct Entry {
     pub count: usize,
     pub last: Option<usize>,

@@ -5,16 +5,12 @@ ghost use Rattle.recording.specs.Telling.{Recorded, recorded};
 ghost use Rattle.words.specs.Calls.{Answers};
 ghost use Rattle.words.specs.Runs.{Settles};
 use crate::loading::LoadRefusal;
-use crate::loading::LoadRefusalDebug;
-use crate::loading::LoadRefusalPartialEq;
 use crate::loading::load;
 use recording::Recording;
 use recording::Refusal;
-use recording::refusal::RefusalDebug;
-use recording::refusal::RefusalPartialEq;
 
 /// A call that changes a recording, with what it is handed.
-#[derive(Clone, Copy, Debug)]
+#[derive(Clone, Copy)]
 pub enum Call<'a> {
     Start(u32),
     Write {
@@ -31,7 +27,7 @@ pub enum Call<'a> {
 }
 
 /// What a call answers: a start nothing, an operation its number, a load the count of operations; or why it is refused.
-#[derive(Clone, Copy, PartialEq, Eq, Debug)]
+#[derive(Clone, Copy)]
 pub enum Answer {
     Started(Result<(), Refusal>),
     Told(Result<usize, Refusal>),
@@ -42,6 +38,25 @@ pub enum Answer {
 pub fn tell(recording: &mut Recording, call: Call<'_>) -> Answer
     ensures answer { λ r. ⌜ Answers (recorded (now (recording .entry))) (call .entry) r (recorded (now (recording .exit))) ⌝ }
     ensures settles { λ _. ⌜ ((calls : List Call) → Settles calls (recorded (now (recording .entry))) → Settles (calls ++ (call .entry) ∷ []) (recorded (now (recording .exit)))) ⌝ }
+{
+    hand_on(recording, call)
+}
+
+/// The recording that a run of calls settles, beginning unstarted.
+pub fn told(calls: &[Call<'_>]) -> Recording
+    ensures settled { λ r. ⌜ Settles (now (calls .entry)) (recorded r) ⌝ }
+    ensures alone { λ r. ⌜ ((other : Recorded) → Settles (now (calls .entry)) other → other ≡ recorded r) ⌝ }
+{
+    let mut recording = Recording::unstarted();
+    for call in calls {
+        tell(&mut recording, *call);
+    }
+    recording
+}
+
+// Hands a call on to the recording.
+fn hand_on(recording: &mut Recording, call: Call<'_>) -> Answer
+    ensures { λ r. ⌜ Answers (recorded (now (recording .entry))) (call .entry) r (recorded (now (recording .exit))) ⌝ }
 {
     match call {
         Call::Start(stations) => Answer::Started(recording.start(stations)),
@@ -57,16 +72,4 @@ pub fn tell(recording: &mut Recording, call: Call<'_>) -> Answer
         } => Answer::Told(recording.read(station, register, value)),
         Call::Load(words) => Answer::Loaded(load(recording, words)),
     }
-}
-
-/// The recording that a run of calls settles, beginning unstarted.
-pub fn told(calls: &[Call<'_>]) -> Recording
-    ensures settled { λ r. ⌜ Settles (now (calls .entry)) (recorded r) ⌝ }
-    ensures alone { λ r. ⌜ ((other : Recorded) → Settles (now (calls .entry)) other → other ≡ recorded r) ⌝ }
-{
-    let mut recording = Recording::unstarted();
-    for call in calls {
-        tell(&mut recording, *call);
-    }
-    recording
 }

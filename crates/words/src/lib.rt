@@ -1,8 +1,8 @@
 //! Recordings as words of 32 bits: the reader, load and save, and whole runs of calls.
 pub mod calls;
 pub mod fault;
-pub mod field;
-pub mod kind;
+mod field;
+mod kind;
 pub mod loading;
 pub mod reader;
 pub mod record;

@@ -13,6 +13,9 @@ use recording::Refusal;
 use recording::refusal::RefusalDebug;
 use recording::refusal::RefusalPartialEq;
 
+// The most words that a load takes.
+const MOST_WORDS: usize = 1024;
+
 /// Why a load is refused, by the layer that refuses.
 #[derive(Clone, Copy, PartialEq, Eq, Debug)]
 pub enum LoadRefusal {
@@ -64,7 +67,7 @@ impl LoadRefusal {
 pub fn load(recording: &mut Recording, words: &[u32]) -> Result<usize, LoadRefusal>
     ensures { λ r. ⌜ Loads (recorded (now (recording .entry))) (now (words .entry)) r (recorded (now (recording .exit))) ⌝ }
 {
-    if words.len() > 1024 {
+    if words.len() > MOST_WORDS {
         return Err(LoadRefusal::TooLong);
     }
     let mut reader = Reader::new(words);

@@ -6,7 +6,7 @@ ghost use lib.ListN.{length};
 mod reading;
 
 /// How far a reader has come: before the opening, between it and the closing, or after the closing.
-#[derive(Clone, Copy, PartialEq, Eq, Debug)]
+#[derive(Clone, Copy)]
 pub enum Phase {
     Before,
     Between,

@@ -1,7 +1,7 @@
 //! What the words of a recording say.
 
 /// One record: a frame, an operation, or a note with its text.
-#[derive(Clone, Copy, Debug)]
+#[derive(Clone, Copy)]
 pub enum Record<'a> {
     Opening(u8),
     Write {
@@ -19,7 +19,7 @@ pub enum Record<'a> {
 }
 
 /// A record, with the place of its first word.
-#[derive(Clone, Copy, Debug)]
+#[derive(Clone, Copy)]
 pub struct Placed<'a> {
     pub place: usize,
     pub record: Record<'a>,

@@ -67,7 +67,7 @@ impl Recording {
         if self.count >= 256 {
             return Err(Refusal::Full);
         }
-        if self.giver(register as u8, value).is_some() {
+        if self.is_written(register as u8, value) {
             return Err(Refusal::ValueRepeated);
         }
         Ok(self.append(Operation {

@@ -1,6 +1,7 @@
 use mathlib.Core.Path.{_≡_, refl, sym, ap, subst, subst₂, _∙_}
 use mathlib.Core.Logic.{inl, inr}
 use Prim.Native.Nat.{_<_}
+use native.Mathlib.Omega.{arith}
 use lib.ListN.{length}
 use Rattle.std.specs.declared.option.Option.the-variants.{Some, None}
 use Rattle.std.specs.declared.result.Result.the-variants.{Ok, Err}
@@ -17,14 +18,14 @@ records-holds c answer after loads = subst (λ r. LoadsFrom r (recorded (c .args
 pub returns-in-Err : need.returns-in-Err
 returns-in-Err c =
     let next = c .in-Err .ensures tt in
-    inr (c .if-words-gt1024 .left, c .records .inv _ _ (loads-fault (reading (c .records .reader)) (recorded (c .records .recording)) (c .in-Err .misread) (next .0) (next .1)))
+    inr (omega arith, c .records .inv _ _ (loads-fault (reading (c .records .reader)) (recorded (c .records .recording)) (c .in-Err .misread) (next .0) (next .1)))
 
 pub returns-in-rest : need.returns-in-rest
 returns-in-rest c =
     let next = subst (λ o. Next (reading (c .records .reader)) (Ok o) (reading (c .next .last .self))) (c .in-rest .is) (c .in-Ok .ensures tt) in
     let all = loads-all (reading (c .records .reader)) (recorded (c .records .recording)) (next .0) (next .1) in
     inr (
-      c .if-words-gt1024 .left,
+      omega arith,
       subst (λ n. LoadsFrom (atStart (c .args .words .now)) (recorded (c .args .recording .now)) (Ok n) (recorded (c .records .recording))) (sym (c .count .ensures)) (c .records .inv _ _ all),
     )
 
@@ -36,7 +37,7 @@ returns-in-Err-tell-record c =
     let refused = c .in-Err-tell-record .ensures tt in
     let ends = loads-refused r b (heard (c .in-Some .placed .record)) (c .in-Err-tell-record .refusal) (next .0) (next .1) (refused .0) in
     inr (
-      c .if-words-gt1024 .left,
+      omega arith,
       subst₂ (λ p a. LoadsFrom (atStart (c .args .words .now)) (recorded (c .args .recording .now)) (Err (Recording (c .in-Err-tell-record .refusal) p)) a)
           (sym (next .2)) (sym (refused .1)) (c .records .inv _ _ ends),
     )

@@ -1,8 +1,6 @@
 use mathlib.Core.Path.{_≡_, sym, ap, _∙_}
 use native.Mathlib.Omega.{arith}
 use borrow.Author.Count.{below-more}
-use lib.Seq.{length-take-le}
-use Rattle.recording.proofs.Operations.{at-front}
 use Rattle.recording.proofs.recording.Recording.giver.Needs as need
 use Rattle.recording.proofs.recording.Recording.giver.Needs.{else-eq·by·then-eq·then-operation-register·else-operation-value, else-eq·by·then-eq·else-operation-register, else-eq·by·else-eq}
 
@@ -11,27 +9,21 @@ loop-number-holds c = λ w h g. absurd (omega arith)
 
 pub returns-then-operation-value : need.returns-then-operation-value
 returns-then-operation-value c =
-    let r = c .args .self .now in
-    let long = length-take-le (r .count) (r .operations) (omega arith) in
-    let front = at-front (r .count) (r .operations) (c .loop-number .number) (c .loop-number-test .taken) in
+    let here = sym (c .held-operation .ensures) in
     record {
-      isWrite = record { inside = omega arith; kind = ap (λ y. y .kind) front ∙ c .if-eq .ensures tt };
-      register = ap (λ y. y .register) front ∙ c .if-operation-register .taken;
-      value = ap (λ y. y .value) front ∙ c .if-operation-value .taken;
+      isWrite = record { inside = omega arith; kind = ap (λ y. y .kind) here ∙ c .if-eq .ensures tt };
+      register = ap (λ y. y .register) here ∙ c .if-operation-register .taken;
+      value = ap (λ y. y .value) here ∙ c .if-operation-value .taken;
     }
 
 pub loop-number-again : need.loop-number-again
 loop-number-again c =
-    let r = c .args .self .now in
-    let front = at-front (r .count) (r .operations) (c .loop-number .number) (c .loop-number-test .taken) in
+    let here = c .held-operation .ensures in
     below-more _ _ (c .loop-number .inv) (λ g. elim (c .else-eq .came) [
-      | else-eq·by·then-eq·then-operation-register·else-operation-value w ↦ w .if-operation-value .left (ap (λ y. y .value) (sym front) ∙ g .value)
-      | else-eq·by·then-eq·else-operation-register w ↦ w .if-operation-register .left (ap (λ y. y .register) (sym front) ∙ g .register)
-      | else-eq·by·else-eq w ↦ w .if-eq .ensures tt (ap (λ y. y .kind) (sym front) ∙ g .isWrite .kind)
+      | else-eq·by·then-eq·then-operation-register·else-operation-value w ↦ w .if-operation-value .left (ap (λ y. y .value) here ∙ g .value)
+      | else-eq·by·then-eq·else-operation-register w ↦ w .if-operation-register .left (ap (λ y. y .register) here ∙ g .register)
+      | else-eq·by·else-eq w ↦ w .if-eq .ensures tt (ap (λ y. y .kind) here ∙ g .isWrite .kind)
     ])
 
 pub returns : need.returns
-returns c =
-    let r = c .args .self .now in
-    let long = length-take-le (r .count) (r .operations) (omega arith) in
-    λ w g. c .loop-number .inv w (omega (arith, g .isWrite .inside)) g
+returns c = λ w g. c .loop-number .inv w (omega (arith, g .isWrite .inside)) g
