@@ -1,5 +1,7 @@
-//! Examples of recordings, of words and of runs, as tests.
+//! Examples of recordings, of words, of runs and of orders, as tests.
 
+#[cfg(test)]
+mod orders;
 #[cfg(test)]
 mod recordings;
 #[cfg(test)]

@@ -1,0 +1,4 @@
+pub mod Extending
+pub mod Places
+pub mod Cycles
+pub mod Loops

@@ -1,0 +1,3 @@
+pub mod Bit
+pub mod Rows
+pub mod Sizes
