@@ -1,5 +1,7 @@
-//! Examples of recordings, of words, of runs and of orders, as tests.
+//! Examples of recordings, of words, of runs, of orders and of visibilities, as tests.
 
+#[cfg(test)]
+mod mirror;
 #[cfg(test)]
 mod orders;
 #[cfg(test)]
@@ -8,3 +10,5 @@ mod recordings;
 mod runs;
 #[cfg(test)]
 mod spelled;
+#[cfg(test)]
+mod visibilities;

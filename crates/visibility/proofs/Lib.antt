@@ -1,0 +1,4 @@
+pub mod Below
+pub mod Stations
+pub mod Rounds
+pub mod Leasts

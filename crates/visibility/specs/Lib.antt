@@ -1,0 +1,4 @@
+pub mod Shapes
+pub mod Growth
+pub mod Visible
+pub mod Late

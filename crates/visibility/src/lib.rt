@@ -1,0 +1,16 @@
+//! Visibility rules, and the least visibility of a recording under one.
+pub mod causal;
+pub mod growing;
+pub mod late;
+pub mod least;
+pub mod outline;
+pub mod rule;
+
+pub use causal::Causal;
+pub use growing::grow;
+pub use late::Late;
+pub use late::LateRefusal;
+pub use least::least_visibility;
+pub use outline::Outline;
+pub use outline::Shape;
+pub use rule::Rule;
