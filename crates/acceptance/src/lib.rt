@@ -11,4 +11,6 @@ mod runs;
 #[cfg(test)]
 mod spelled;
 #[cfg(test)]
+mod terms;
+#[cfg(test)]
 mod visibilities;

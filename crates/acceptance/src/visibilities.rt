@@ -44,6 +44,24 @@ fn causal_visibility_goes_through_a_chain() -> Result<(), Fail> {
 }
 
 #[test]
+fn a_chain_of_reads_told_before_their_writes_takes_many_sweeps() -> Result<(), Fail> {
+    let mut r = Recording::unstarted();
+    check_eq(r.start(16), Ok(()))?;
+    for station in 0..15 {
+        check_eq(r.read(station + 1, station, 1), Ok(station as usize))?;
+    }
+    for station in 0..15 {
+        check_eq(r.write(station, station, 1), Ok(station as usize + 15))?;
+    }
+    let mut words = [0; 1024];
+    least_visibility(&r, &Causal, &mut words);
+    let seen = Table { words: &words };
+    check(seen.pair(15, 14))?;
+    check(!seen.pair(14, 15))?;
+    check(!seen.pair(16, 15))
+}
+
+#[test]
 fn a_cycle_is_seen_from_both_ends() -> Result<(), Fail> {
     let mut r = Recording::unstarted();
     check_eq(r.read(0, 5, 7), Ok(0))?;

@@ -1,14 +1,13 @@
 -- What grows from the sources is the least visibility.
-use mathlib.Core.Bool.{Bool, true, false, _&&_}
+use mathlib.Core.Bool.{true, _&&_}
 use mathlib.Core.List.{List, map}
-use mathlib.Core.Path.{_≡_, refl, sym, ap, subst, _∙_}
+use mathlib.Core.Path.{_≡_}
 use Prim.Native.Nat.{ℕ, _<_}
 use native.Mathlib.Omega.{arith}
 use lib.Dec.{ltb}
 use lib.ListN.{length, length-map}
 use Rattle.std.proofs.shelf.Tests.{and-parts, and-from, lt-ltb, ltb-true}
 use Rattle.recording.specs.declared.operation.Operation.{Operation}
-use Rattle.recording.specs.Operations.{SourceOf}
 use Rattle.rows.specs.Members.{related}
 use Rattle.visibility.specs.declared.outline.Shape.{Shape}
 use Rattle.visibility.specs.Growth.{Rel, Inside, Least}

@@ -1,16 +1,14 @@
 -- One row, one round: what they do to a table.
 use mathlib.Core.Path.{_≡_, refl, sym, ap, ap₂, subst, _∙_}
-use mathlib.Core.Logic.{_⊎_, inl, inr}
+use mathlib.Core.Logic.{inl, inr}
 use mathlib.Core.List.{List}
-use mathlib.Core.Bool.{Bool, true, false, _&&_, _||_, not}
-use Prim.Native.Nat.{ℕ, zero, suc, min, _+_, _-_, _*_, _/_, _%_, _≤_, _<_}
+use mathlib.Core.Bool.{Bool, true, false, _||_}
+use Prim.Native.Nat.{ℕ, _+_, _*_, _/_, _%_, _≤_, _<_}
 use native.Mathlib.Omega.{arith}
-use lib.Dec.{eqb, ltb}
 use lib.ListN.{length}
 use Rattle.std.specs.Orderings.{Decides}
-use Rattle.std.proofs.shelf.Tests.{cases-eq, cases-bool, cases-lt, both-ways, eq-eqb, ne-eqb, and-parts, or-cases, or-parts, or-left, or-right, and-from, lt-ltb, ltb-true}
+use Rattle.std.proofs.shelf.Tests.{cases-eq, cases-lt, both-ways, or-cases, or-parts, or-left, or-right}
 use Rattle.rows.specs.Members.{related, rowOf}
-use Rattle.rows.specs.Counts.{size}
 use Rattle.rows.proofs.Sizes.{size-mono, size-full}
 use Rattle.rows.proofs.Rows.{has-past}
 use Rattle.visibility.specs.Growth.{Rel, Inside, Closed, Least, Grown, filled}

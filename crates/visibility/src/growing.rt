@@ -1,7 +1,8 @@
 //! Grows a table until it holds all that a rule demands. A round asks for a row of each operation; there are as many
 //! rounds as it takes until one changes nothing, mostly two or three, since a round goes from the last operation to the first.
+ghost use mathlib.Core.Bool.{false};
 ghost use mathlib.Core.Path.{_≡_};
-ghost use Prim.Native.Nat.{_+_, _<_, _≤_};
+ghost use Prim.Native.Nat.{_+_, _<_};
 ghost use lib.ListN.{length};
 ghost use Rattle.rows.specs.Members.{related};
 ghost use Rattle.visibility.specs.Growth.{Grown, Least};
@@ -21,6 +22,17 @@ pub fn grow<R: Rule>(rule: &R, outline: &Outline, table: &mut [u64])
     if table.len() == 1024 {
         while round(rule, outline, table) {}
     }
+}
+
+/// One round of the growth, for whoever counts them: says whether anything was new. Words of another length are left as they are.
+pub fn sweep<R: Rule>(rule: &R, outline: &Outline, table: &mut [u64]) -> bool
+    ensures grown { λ r. ⌜ (length (now (table .entry)) ≡ 1024 → Grown (Asked (demands (now (rule .entry))) (shapesOf (now (outline .entry)))) 0 (length (shapesOf (now (outline .entry)))) (now (table .entry)) (now (table .exit)) r) ⌝ }
+    ensures unfit { λ r. ⌜ ((length (now (table .entry)) ≡ 1024 → ⊥) → (r ≡ false) × (now (table .exit) ≡ now (table .entry))) ⌝ }
+{
+    if table.len() == 1024 {
+        return round(rule, outline, table);
+    }
+    false
 }
 
 // One round over the rows, the last one first; says whether anything was new.

@@ -1,5 +1,4 @@
 //! The late rule: what came long enough before at one station is seen.
-ghost use mathlib.Core.Path.{_≡_};
 ghost use Prim.Native.Nat.{_≤_};
 ghost use Rattle.visibility.specs.Visible.{LateDemand};
 use crate::outline::Outline;

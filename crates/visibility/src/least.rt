@@ -1,6 +1,6 @@
 //! The least visibility of a recording under a rule.
 ghost use mathlib.Core.Path.{_≡_};
-ghost use Prim.Native.Nat.{_+_, _<_};
+ghost use Prim.Native.Nat.{_+_};
 ghost use lib.ListN.{length};
 ghost use Rattle.recording.specs.Telling.{recorded};
 ghost use Rattle.rows.specs.Members.{related};

@@ -1,5 +1,4 @@
-use mathlib.Core.Path.{_≡_, refl, _∙_}
-use native.Mathlib.Omega.{arith}
+use mathlib.Core.Path.{refl, _∙_}
 use Rattle.std.proofs.shelf.Ways.{not-from-decides}
 use Rattle.rows.specs.Members.{member}
 use Rattle.visibility.specs.Shapes.{shapesOf}

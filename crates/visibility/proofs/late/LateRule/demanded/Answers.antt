@@ -1,18 +1,17 @@
 use borrow.Author.Needs.{needs}
 use mathlib.Core.Bool.{true, false}
 use mathlib.Core.Logic.{inl, inr}
-use mathlib.Core.Path.{_≡_, refl, sym, ap, subst, _∙_}
+use mathlib.Core.Path.{_≡_, refl, sym, subst, _∙_}
 use Prim.Native.Nat.{suc, _+_, _<_, _≤_}
 use native.Mathlib.Numerals.{add-one}
 use native.Mathlib.Omega.{arith}
-use lib.ListN.{length}
 use lib.Seq.{length-take-le}
 use Rattle.std.proofs.shelf.Tests.{both-ways, cases-lt}
 use Rattle.rows.specs.Counts.{size}
 use Rattle.rows.specs.Members.{member}
 use Rattle.rows.proofs.Sizes.{size-le}
 use Rattle.visibility.specs.Shapes.{shapesOf, before}
-use Rattle.visibility.specs.Visible.{Asked, LateDemand}
+use Rattle.visibility.specs.Visible.{LateDemand}
 use Rattle.visibility.proofs.Below.{Filled, filled-with, filled-without}
 use Rattle.visibility.proofs.Stations.{size-more, size-level, before-below, before-first}
 use Rattle.visibility.proofs.late.LateRule.demanded.Needs as need

@@ -1,5 +1,4 @@
 use mathlib.Core.Path.{_≡_}
-use Prim.Native.Nat.{_≤_}
 use Rattle.rows.specs.Counts.{size}
 use Rattle.rows.specs.Members.{member}
 use Rattle.visibility.specs.Shapes.{shapesOf, before}

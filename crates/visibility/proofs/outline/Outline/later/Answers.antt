@@ -1,14 +1,12 @@
-use mathlib.Core.Bool.{true, false, _&&_, _||_}
-use mathlib.Core.Path.{_≡_, sym, ap, _∙_}
-use Prim.Native.Nat.{_+_, _<_}
+use mathlib.Core.Bool.{_||_}
+use mathlib.Core.Path.{sym, ap, _∙_}
 use native.Mathlib.Omega.{arith}
-use lib.Dec.{eqb, ltb}
-use lib.ListN.{length, take}
+use lib.Dec.{eqb}
 use lib.Seq.{length-take-le}
-use Rattle.std.proofs.shelf.Tests.{and-parts, ltb-true, lt-ltb, eq-eqb, ne-eqb}
+use Rattle.std.proofs.shelf.Tests.{eq-eqb, ne-eqb}
 use Rattle.std.proofs.shelf.Ways.{tells}
 use Rattle.rows.specs.Members.{member}
-use Rattle.visibility.specs.Shapes.{shapesOf, shapeAt, before}
+use Rattle.visibility.specs.Shapes.{shapesOf, before}
 use Rattle.visibility.proofs.Below.{more-passes, more-fails, all-passed}
 use Rattle.visibility.proofs.Stations.{before-is, before-below}
 use Rattle.visibility.proofs.outline.Outline.later.Needs as need

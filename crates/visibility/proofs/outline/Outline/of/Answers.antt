@@ -1,8 +1,7 @@
 use mathlib.Core.List.{[], _∷_, _++_, map}
 use mathlib.Core.Path.{_≡_, sym, ap, subst, _∙_}
-use Prim.Native.Nat.{_+_}
 use native.Mathlib.Omega.{arith}
-use lib.ListN.{length, take, length-set}
+use lib.ListN.{take, length-set}
 use lib.Seq.{length-take-le, take-all}
 use Rattle.std.proofs.shelf.Lists.{take-more-set, map-more}
 use Rattle.recording.specs.Operations.{writeOf}
