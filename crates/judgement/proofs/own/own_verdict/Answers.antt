@@ -11,7 +11,7 @@ returns g c =
     let D = g.R.Rule.demands c.args.rule.now in
     let known = g.R.Rule.known c.args.rule.now in
     let ops = (recorded c.args.recording.now).operations in
-    let V = related c.least-visibility.new.table in
-    subst (λ v. OwnJudged D known ops v V c.args.evidence.now c.show-violation-shown.new.evidence) (sym c.of.ensures)
-    (own_judged D known c.label.result c.label.ensures ops (valid_of c.args.recording.now) V (c.least-visibility.ensures.least c.requires.0) c.args.evidence.now c.show-violation-shown.new.evidence
-    c.show-violation-shown.result c.show-violation-shown.ensures)
+    let V = related c.least_visibility.new.table in
+    subst (λ v. OwnJudged D known ops v V c.args.evidence.now c.show_violation-shown.new.evidence) (sym c.of.ensures)
+    (own_judged D known c.label.result c.label.ensures ops (valid_of c.args.recording.now) V (c.least_visibility.ensures.least c.requires.0) c.args.evidence.now c.show_violation-shown.new.evidence
+    c.show_violation-shown.result c.show_violation-shown.ensures)

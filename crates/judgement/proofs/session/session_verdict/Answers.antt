@@ -6,15 +6,15 @@ use Rattle.judgement.proofs.Recordings.{valid_of}
 use Rattle.judgement.proofs.Sessioning.{session_violated, session_judged}
 use Rattle.judgement.proofs.session.session_verdict.Goals as goal
 
-pub returns-then-is-some : goal.returns-then-is-some
-returns-then-is-some c =
+pub returns-then-is_some : goal.returns-then-is_some
+returns-then-is_some c =
     let ops = (recorded c.args.recording.now).operations in
-    let V = related c.least-visibility.new.table in
-    subst (λ v. SessionJudged ops v V c.args.evidence.now c.show-violation-shown.new.evidence) (sym c.of.ensures)
-    (session_violated ops (valid_of c.args.recording.now) V (c.least-visibility.ensures.least c.requires.0) c.args.evidence.now c.show-violation-shown.new.evidence
-    c.show-violation-shown.result (sym c.is-some.ensures ∙ c.if-is-some.true) c.show-violation-shown.ensures)
+    let V = related c.least_visibility.new.table in
+    subst (λ v. SessionJudged ops v V c.args.evidence.now c.show_violation-shown.new.evidence) (sym c.of.ensures)
+    (session_violated ops (valid_of c.args.recording.now) V (c.least_visibility.ensures.least c.requires.0) c.args.evidence.now c.show_violation-shown.new.evidence
+    c.show_violation-shown.result (sym c.is_some.ensures ∙ c.if-is_some.true) c.show_violation-shown.ensures)
 
 pub returns : goal.returns
 returns c =
-    session_judged (recorded c.args.recording.now).operations (valid_of c.args.recording.now) (related c.least-visibility.new.table) (c.least-visibility.ensures.least c.requires.0) c.args.evidence.now
-    c.show-stale.new.evidence c.show-violation-shown.new.evidence c.show-violation-shown.result (sym c.is-some.ensures ∙ c.if-is-some.false) c.show-violation-shown.ensures c.show-stale.result c.show-stale.ensures
+    session_judged (recorded c.args.recording.now).operations (valid_of c.args.recording.now) (related c.least_visibility.new.table) (c.least_visibility.ensures.least c.requires.0) c.args.evidence.now
+    c.show_stale.new.evidence c.show_violation-shown.new.evidence c.show_violation-shown.result (sym c.is_some.ensures ∙ c.if-is_some.false) c.show_violation-shown.ensures c.show_stale.result c.show_stale.ensures

@@ -14,6 +14,6 @@ returns-in-Some c =
       label = refl;
       found = (
         λ o last. p.init o (c.args.recording.now.range o last.inside).0 last,
-        record { shows = (p.cyclic.0, c.in-Some.found.rivals, c.put-front-in-Some.ensures.front (omega arith), p.cyclic.1); few = omega arith; tail = c.put-front-in-Some.ensures.tail },
+        record { shows = (p.cyclic.0, c.in-Some.found.rivals, c.put_front-in-Some.ensures.front (omega arith), p.cyclic.1); few = omega arith; tail = c.put_front-in-Some.ensures.tail },
       );
     }

@@ -6,8 +6,8 @@ use Rattle.rows.proofs.Sizes.{size_le, size_without}
 use Rattle.relation.proofs.Loops.{room, arranged_more}
 use Rattle.relation.proofs.order.arrange.Goals as goal
 
-pub offset-bounds-list-count : goal.offset-bounds-list-count
-offset-bounds-list-count g c =
+pub offset_bounds-list-count : goal.offset_bounds-list-count
+offset_bounds-list-count g c =
     let f = c.in-Some.ensures in
     let r = room (has c.loop-k.left.words) (has c.args.members.words) c.loop-k.count c.in-Some.k c.loop-k.invariant.1 f.0 f.1 in
     search rules
@@ -17,8 +17,8 @@ bounds-list-count g c =
     let f = c.in-Some.ensures in
     room (has c.loop-k.left.words) (has c.args.members.words) c.loop-k.count c.in-Some.k c.loop-k.invariant.1 f.0 f.1
 
-pub overflow-add-count : goal.overflow-add-count
-overflow-add-count g c =
+pub overflow_add-count : goal.overflow_add-count
+overflow_add-count g c =
     let f = c.in-Some.ensures in
     let r = room (has c.loop-k.left.words) (has c.args.members.words) c.loop-k.count c.in-Some.k c.loop-k.invariant.1 f.0 f.1 in
     search rules
@@ -49,4 +49,4 @@ pub returns : goal.returns
 returns g c =
     let e = c.loop-k.invariant.1 in
     let b = size_le (has c.args.members.words) 256 in
-    record { few = omega arith; arranged = c.loop-k.invariant.0; stuck = c.in-default.ensures }
+    record { few = omega arith; arranged = c.loop-k.invariant.0; stuck = c.in_default.ensures }

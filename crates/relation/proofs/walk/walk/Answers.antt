@@ -29,8 +29,8 @@ returns-then-contains g c =
           c.predecessor-before.result c.place-end.result c.walking.invariant.0 p.0 p.1 p.2 c.predecessor-before.ensures.before;
     }
 
-pub overflow-sub-at : goal.overflow-sub-at
-overflow-sub-at g c =
+pub overflow_sub-at : goal.overflow_sub-at
+overflow_sub-at g c =
     space (has c.walking.seen.words) c.walking.at c.predecessor-before.result c.walking.invariant.1 c.predecessor-before.ensures.low
     (sym c.if-contains.ensures)
 

@@ -15,7 +15,7 @@ returns-then-table-eq1024 c =
     record {
       happened = λ g.
           happened_before (recorded r).operations (omega (arith, length-take-le r.count r.operations (omega (arith, r.few, r.room)), r.few)) (related c.args.seen.words.now) c.args.last g.inside g.within
-          words c.put-past.new.table c.of.ensures c.put-past.ensures (related c.grow.new.table)
-          (subst (λ f. Least (Asked (HappeningDemand (related words)) f) (related c.put-past.new.table) (related c.grow.new.table)) c.of-then-table-eq1024.ensures (c.grow.ensures.least c.put-past.ensures.long));
+          words c.put_past.new.table c.of.ensures c.put_past.ensures (related c.grow.new.table)
+          (subst (λ f. Least (Asked (HappeningDemand (related words)) f) (related c.put_past.new.table) (related c.grow.new.table)) c.of-then-table-eq1024.ensures (c.grow.ensures.least c.put_past.ensures.long));
       unfit = λ n. absurd (n c.if-table-eq1024.true);
     }

@@ -8,5 +8,5 @@ pub returns-then-contains : goal.returns-then-contains
 returns-then-contains c =
     let V = related c.args.seen.words.now in
     let long = c.requires.1.long in
-    past_row (recorded c.args.recording.now).operations V c.args.last c.args.a (member c.args.past) c.args.table.now c.put-row.new.table c.requires.2 ((c.requires.2 c.args.a).0 (sym c.contains.ensures ∙ c.if-contains.true))
-    (c.put-row.ensures.long ∙ long) (λ b. c.put-row.ensures.here long c.requires.0 b ∙ c.intersection.ensures b ∙ ap (λ x. x && member c.args.past b) (c.row.ensures b)) c.put-row.ensures.others c.requires.1
+    past_row (recorded c.args.recording.now).operations V c.args.last c.args.a (member c.args.past) c.args.table.now c.put_row.new.table c.requires.2 ((c.requires.2 c.args.a).0 (sym c.contains.ensures ∙ c.if-contains.true))
+    (c.put_row.ensures.long ∙ long) (λ b. c.put_row.ensures.here long c.requires.0 b ∙ c.intersection.ensures b ∙ ap (λ x. x && member c.args.past b) (c.row.ensures b)) c.put_row.ensures.others c.requires.1

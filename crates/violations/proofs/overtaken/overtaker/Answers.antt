@@ -19,6 +19,6 @@ returns c =
     λ k. (λ h. narrow_steps ops V M c.requires.1 w k ((c.reach.ensures k).0 h), λ s. (c.reach.ensures k).1 (steps_narrow ops V M c.requires.1 w k s)) in
     let both : (k : ℕ) → Decides (member c.intersection.result k) (BadRead ops V r w k) =
     λ k.
-    let d = decides_both (member c.reach.result k) (member c.rivals-of-rivals.result k) (member c.intersection.result k) (Steps (Writes ops V) w k) (Rival ops V r w k) (c.intersection.ensures k) (led k) (c.rivals-of-rivals.ensures k) in
+    let d = decides_both (member c.reach.result k) (member c.rivals_of-rivals.result k) (member c.intersection.result k) (Steps (Writes ops V) w k) (Rival ops V r w k) (c.intersection.ensures k) (led k) (c.rivals_of-rivals.ensures k) in
     (λ h. let z = d.0 h in record { rival = z.1; steps = z.0 }, λ b. d.1 (b.steps, b.rival)) in
     smallest_first (BadRead ops V r w) (member c.intersection.result) both c.first.result c.first.ensures

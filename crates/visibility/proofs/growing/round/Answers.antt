@@ -17,10 +17,10 @@ loop-a-preserved g c =
     let f = shapes_of c.args.outline.now in
     let D = Asked (g.R.Rule.demands c.args.rule.now) f in
     let next : c.loop-a.a - 1 + 1 ≡ c.loop-a.a = omega arith in
-    let row : Grown D (c.loop-a.a - 1) c.loop-a.a c.loop-a.table c.grow-row-changed.new.table c.grow-row-changed.result =
-    subst (λ k. Grown D (c.loop-a.a - 1) k c.loop-a.table c.grow-row-changed.new.table c.grow-row-changed.result) next c.grow-row-changed.ensures in
+    let row : Grown D (c.loop-a.a - 1) c.loop-a.a c.loop-a.table c.grow_row-changed.new.table c.grow_row-changed.result =
+    subst (λ k. Grown D (c.loop-a.a - 1) k c.loop-a.table c.grow_row-changed.new.table c.grow_row-changed.result) next c.grow_row-changed.ensures in
     let few = c.loop-a.invariant.1 in (
-      grown_then D (c.loop-a.a - 1) c.loop-a.a (length f) c.args.table.now c.loop-a.table c.grow-row-changed.new.table
-          c.loop-a.changed c.grow-row-changed.result c.loop-a.invariant.0 row,
+      grown_then D (c.loop-a.a - 1) c.loop-a.a (length f) c.args.table.now c.loop-a.table c.grow_row-changed.new.table
+          c.loop-a.changed c.grow_row-changed.result c.loop-a.invariant.0 row,
       omega arith,
     )

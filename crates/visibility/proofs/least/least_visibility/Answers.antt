@@ -10,8 +10,8 @@ pub returns-then-table-eq1024 : goal.returns-then-table-eq1024
 returns-then-table-eq1024 g c =
     let D = g.R.Rule.demands c.args.rule.now in
     let ops = (recorded c.args.recording.now).operations in
-    let grown = subst (λ f. Least (Asked D f) (related c.put-sources.new.table) (related c.grow.new.table)) c.of.ensures (c.grow.ensures.least c.put-sources.ensures.long) in
+    let grown = subst (λ f. Least (Asked D f) (related c.put_sources.new.table) (related c.grow.new.table)) c.of.ensures (c.grow.ensures.least c.put_sources.ensures.long) in
     record {
-      least = λ _. is_least D (g.met.R.Rule.grows c.args.rule.now) ops c.put-sources.new.table (related c.grow.new.table) c.put-sources.ensures grown;
+      least = λ _. is_least D (g.met.R.Rule.grows c.args.rule.now) ops c.put_sources.new.table (related c.grow.new.table) c.put_sources.ensures grown;
       unfit = λ n. absurd (n (omega arith));
     }

@@ -4,6 +4,6 @@ use Rattle.words.proofs.calls.tell.Goals as goal
 
 pub returns : goal.returns
 returns c = record {
-  answer = c.hand-on.ensures;
-  settles = λ calls settled. settles_more calls c.args.call (recorded c.args.recording.now) c.hand-on.result (recorded c.hand-on.new.recording) settled c.hand-on.ensures;
+  answer = c.hand_on.ensures;
+  settles = λ calls settled. settles_more calls c.args.call (recorded c.args.recording.now) c.hand_on.result (recorded c.hand_on.new.recording) settled c.hand_on.ensures;
 }

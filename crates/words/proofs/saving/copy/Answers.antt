@@ -6,15 +6,15 @@ use Rattle.words.specs.Saving.{words_of}
 use Rattle.words.proofs.RoundTrip.{recording_loads_back, saved_front}
 use Rattle.words.proofs.saving.copy.Goals as goal
 
-pub returns-in-err-count : goal.returns-in-err-count
-returns-in-err-count c =
+pub returns-in_err-count : goal.returns-in_err-count
+returns-in_err-count c =
     let p = err_from_is_err_and c.from-residual.result c.from-residual.ensures.1 in
-    rw (p.1, p.2) (record { saved = c.in-err-count.ensures; equal = refl; loads_back = recording_loads_back c.args.recording.now })
+    rw (p.1, p.2) (record { saved = c.in_err-count.ensures; equal = refl; loads_back = recording_loads_back c.args.recording.now })
 
 pub unreachable-requires : goal.unreachable-requires
 unreachable-requires c =
-    let saved = c.in-ok-count.ensures in
-    let n = c.in-ok-count.count in
+    let saved = c.in_ok-count.ensures in
+    let n = c.in_ok-count.count in
     let r = recorded c.args.recording.now in
     let same : n - 0 ≡ n = omega arith in
     let words : take (n - 0) c.save.new.words ≡ words_of r = ap (λ k. take k c.save.new.words) same ∙ saved_front r n _ _ saved.0 saved.2 in
@@ -24,8 +24,8 @@ unreachable-requires c =
 
 pub returns : goal.returns
 returns c =
-    let saved = c.in-ok-count.ensures in
-    let n = c.in-ok-count.count in
+    let saved = c.in_ok-count.ensures in
+    let n = c.in_ok-count.count in
     let r = recorded c.args.recording.now in
     let same : n - 0 ≡ n = omega arith in
     let words : take (n - 0) c.save.new.words ≡ words_of r = ap (λ k. take k c.save.new.words) same ∙ saved_front r n _ _ saved.0 saved.2 in

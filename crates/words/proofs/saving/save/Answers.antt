@@ -17,12 +17,12 @@ loop-number-preserved c =
     let r = recorded c.args.recording.now in
     let n = c.loop-number.number in
     let told = c.in-Some.ensures in
-    let word : c.operation-word.result ≡ operation_word (at r.operations n) = c.operation-word.ensures ∙ ap operation_word told.1 in
+    let word : c.operation_word.result ≡ operation_word (at r.operations n) = c.operation_word.ensures ∙ ap operation_word told.1 in
     let long : length c.loop-number.words ≡ length c.args.words.now = c.loop-number.auto.words ∙ length-set c.args.words.now 0 _ in
     let room : n + 1 < length c.loop-number.words = omega arith in (
-      front_more c.loop-number.words _ (n + 1) c.operation-word.result room c.loop-number.invariant.0
+      front_more c.loop-number.words _ (n + 1) c.operation_word.result room c.loop-number.invariant.0
           ∙ ap (λ l. opening_word r.stations ∷ l) (ap (λ w. map operation_word (take n r.operations) ++ w ∷ []) word ∙ sym (map_more operation_word r.operations n (write_of 0 0 0) told.0)),
-      rest_more c.loop-number.words _ (n + 1) c.operation-word.result c.loop-number.invariant.1,
+      rest_more c.loop-number.words _ (n + 1) c.operation_word.result c.loop-number.invariant.1,
     )
 
 pub returns : goal.returns

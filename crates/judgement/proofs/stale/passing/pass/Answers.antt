@@ -5,8 +5,8 @@ use Rattle.judgement.specs.Passing.{Passed}
 use Rattle.judgement.proofs.Passings.{pass_none, pass_clean, pass_cyclic}
 use Rattle.judgement.proofs.stale.passing.pass.Goals as goal
 
-pub returns-in-default : goal.returns-in-default
-returns-in-default c = pass_none (recorded c.args.recording.now).operations (related c.args.seen.words.now) c.args.station c.args.cyclic c.in-default.ensures c.requires.3
+pub returns-in_default : goal.returns-in_default
+returns-in_default c = pass_none (recorded c.args.recording.now).operations (related c.args.seen.words.now) c.args.station c.args.cyclic c.in_default.ensures c.requires.3
 
 pub returns-in-Cyclic : goal.returns-in-Cyclic
 returns-in-Cyclic c =

@@ -12,8 +12,8 @@ note-requires c =
     let low : s < 16 = omega arith in
     (low, omega (arith, (c.args.self.now.kept s low).0, tally_few ops s))
 
-pub invariant-of-self : goal.invariant-of-self
-invariant-of-self c =
+pub invariant_of-self : goal.invariant_of-self
+invariant_of-self c =
     let r = c.args.self.now in
     let x = c.args.operation in
     let ops = take r.count r.operations in

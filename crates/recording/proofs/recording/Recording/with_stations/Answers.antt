@@ -2,8 +2,8 @@ use Rattle.std.proofs.Common.{◌≡◌, [], sym, refl, ap, subst, arith}
 use Rattle.recording.proofs.Appending.{kept_none}
 use Rattle.recording.proofs.recording.Recording.with_stations.Goals as goal
 
-pub invariant-of-result : goal.invariant-of-result
-invariant-of-result c = (
+pub invariant_of-result : goal.invariant_of-result
+invariant_of-result c = (
   c.requires.0,
   (
     c.requires.1,

@@ -10,8 +10,8 @@ use Rattle.visibility.proofs.Stations.{size_more, size_level, before_below, befo
 use Rattle.visibility.proofs.late.LateRule.demanded.Goals as goal
 use Rattle.visibility.proofs.late.LateRule.demanded.Goals.{then-contains+then-places-distance, then-contains+else-places-distance, else-contains}
 
-pub overflow-add-places : goal.overflow-add-places
-overflow-add-places c =
+pub overflow_add-places : goal.overflow_add-places
+overflow_add-places c =
     let o = c.args.outline.now in
     let few = size_le (before (shapes_of o) c.args.a) c.loop-b.b in
     let is = c.loop-b.invariant.1 in

@@ -19,8 +19,8 @@ loop-number-preserved c =
       length-set c.loop-number.shapes n _ ∙ long,
     )
 
-pub invariant-of-result : goal.invariant-of-result
-invariant-of-result c =
+pub invariant_of-result : goal.invariant_of-result
+invariant_of-result c =
     let few = length-take-le c.args.recording.now.count c.args.recording.now.operations (omega arith) in
     (omega arith, (c.loop-number.invariant.1, tt))
 

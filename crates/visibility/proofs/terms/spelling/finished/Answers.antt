@@ -3,8 +3,8 @@ use Rattle.visibility.specs.Terms.{terms_up_to}
 use Rattle.visibility.proofs.Drafting.{terms_more, terms_long, letters_long, fit_more}
 use Rattle.visibility.proofs.terms.spelling.finished.Goals as goal
 
-pub invariant-of-result : goal.invariant-of-result
-invariant-of-result c =
+pub invariant_of-result : goal.invariant_of-result
+invariant_of-result c =
     let d = c.args.draft.now in
     (omega arith, (length-set d.lengths d.count d.current ∙ d.eight, (d.wide, (fit_more d.lengths d.count d.current (omega (arith, d.eight)) d.short d.fit, tt))))
 
