@@ -1,4 +1,6 @@
 //! Prints how many rows an order of 64, 128 and 256 members asks for: the cost of an order grows as the square.
+#![tactic(auto)]
+
 ghost use Rattle.std.specs.Prelude.{◌+◌, ◌&&◌, ◌==◌, nat_lt};
 
 use relation::{Outcome, Relation, order_or_cycle};

@@ -1,4 +1,6 @@
 //! Judges many small recordings twice: by the judgements, and by a second checker that tries every order and every listing.
+#![tactic(auto)]
+
 mod dice;
 mod listing;
 mod making;

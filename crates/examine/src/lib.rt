@@ -1,4 +1,6 @@
 //! Any question about any run of calls: the main promise on one call.
+#![tactic(auto)]
+
 pub mod asking;
 pub mod question;
 

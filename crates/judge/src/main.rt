@@ -1,4 +1,6 @@
 //! Reads a recording as text from standard input, tells it, judges it, and prints what came of it.
+#![tactic(auto)]
+
 mod line;
 mod operations;
 mod request;

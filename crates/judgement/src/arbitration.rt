@@ -17,7 +17,7 @@ pub(crate) fn arbitrate(
     conflicts: Table<'_>,
     evidence: &mut [u16],
 ) -> Outcome
-    requires evidence_len { length evidence.old ≡ 256 }
+    requires evidence { length evidence.old ≡ 256 }
     requires tabled { Tabled (recorded recording.now).operations (related seen.words.now) (length (recorded recording.now).operations) 0 conflicts.words.now }
     ensures { Arbitrated (recorded recording.now).operations (related seen.entry.words.now) evidence.old evidence.new result }
 {

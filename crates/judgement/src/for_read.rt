@@ -48,8 +48,8 @@ fn own_order<R: Rule>(
     seen: &mut [u64],
     evidence: &mut [u16],
 ) -> Result<usize, Refusal>
-    requires seen_len { length seen.old ≡ 1024 }
-    requires evidence_len { length evidence.old ≡ 256 }
+    requires seen { length seen.old ≡ 1024 }
+    requires evidence { length evidence.old ≡ 256 }
     requires read { IsRead (recorded recording.now).operations read }
     ensures { OrderFound (demands rule.now) (known rule.now) (recorded recording.now).operations read (related seen.new) evidence.old evidence.new result }
 {
@@ -70,7 +70,7 @@ pub(crate) fn grant(verdict: Verdict) -> Result<(), Refusal>
 
 // Puts an order for a read at the front of the evidence, and answers its length.
 fn order_writes(recording: &Recording, seen: Table<'_>, read: usize, evidence: &mut [u16]) -> usize
-    requires evidence_len { length evidence.old ≡ 256 }
+    requires evidence { length evidence.old ≡ 256 }
     requires own_clean { OwnClean (recorded recording.now).operations (related seen.words.now) }
     ensures { OrderedFor (recorded recording.now).operations (related seen.entry.words.now) read result evidence.old evidence.new }
 {

@@ -48,10 +48,10 @@ fn session_order(
     working: &mut [u64],
     evidence: &mut [u16],
 ) -> Result<usize, Refusal>
-    requires seen_len { length seen.old ≡ 1024 }
-    requires working_len { length working.old ≡ 1024 }
-    requires evidence_len { length evidence.old ≡ 256 }
-    requires station_bound { station < (recorded recording.now).stations }
+    requires seen { length seen.old ≡ 1024 }
+    requires working { length working.old ≡ 1024 }
+    requires evidence { length evidence.old ≡ 256 }
+    requires station { station < (recorded recording.now).stations }
     ensures { ListingFound (recorded recording.now).operations station (related seen.new) evidence.old evidence.new result }
 {
     let verdict = session_verdict(recording, seen, working, evidence);
@@ -70,8 +70,8 @@ fn list_past(
     working: &mut [u64],
     evidence: &mut [u16],
 ) -> usize
-    requires working_len { length working.old ≡ 1024 }
-    requires evidence_len { length evidence.old ≡ 256 }
+    requires working { length working.old ≡ 1024 }
+    requires evidence { length evidence.old ≡ 256 }
     requires last { Last (recorded recording.now).operations last }
     requires least { IsLeast CausalDemand (recorded recording.now).operations (related seen.words.now) }
     requires session_explains { SessionExplains (recorded recording.now).operations (related seen.words.now) }

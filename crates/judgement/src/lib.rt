@@ -1,4 +1,6 @@
 //! Judgements of recordings: own, shared, and the order for a read.
+#![tactic(auto)]
+
 mod arbitration;
 pub mod for_read;
 pub mod for_station;

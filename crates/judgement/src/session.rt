@@ -39,9 +39,9 @@ pub(crate) fn session_verdict(
     working: &mut [u64],
     evidence: &mut [u16],
 ) -> Verdict
-    requires seen_len { length seen.old ≡ 1024 }
-    requires working_len { length working.old ≡ 1024 }
-    requires evidence_len { length evidence.old ≡ 256 }
+    requires seen { length seen.old ≡ 1024 }
+    requires working { length working.old ≡ 1024 }
+    requires evidence { length evidence.old ≡ 256 }
     ensures { SessionJudged (recorded recording.now).operations result (related seen.new) evidence.old evidence.new }
 {
     least_visibility(recording, &Causal, seen);
@@ -60,9 +60,9 @@ fn show_stale(
     working: &mut [u64],
     evidence: &mut [u16],
 ) -> Verdict
-    requires working_len { length working.old ≡ 1024 }
-    requires evidence_len { length evidence.old ≡ 256 }
-    requires by_index { (a b : ℕ) → related seen.words.now a b ≡ true → (a < length (recorded recording.now).operations) × (b < length (recorded recording.now).operations) }
+    requires working { length working.old ≡ 1024 }
+    requires evidence { length evidence.old ≡ 256 }
+    requires inside { (a b : ℕ) → related seen.words.now a b ≡ true → (a < length (recorded recording.now).operations) × (b < length (recorded recording.now).operations) }
     ensures { StationJudged (recorded recording.now).operations (related seen.entry.words.now) evidence.old evidence.new result }
 {
     let cyclic = match pass_stations(recording, seen, working) {

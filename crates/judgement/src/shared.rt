@@ -39,9 +39,9 @@ fn shared_verdict<R: Rule>(
     working: &mut [u64],
     evidence: &mut [u16],
 ) -> Verdict
-    requires seen_len { length seen.old ≡ 1024 }
-    requires working_len { length working.old ≡ 1024 }
-    requires evidence_len { length evidence.old ≡ 256 }
+    requires seen { length seen.old ≡ 1024 }
+    requires working { length working.old ≡ 1024 }
+    requires evidence { length evidence.old ≡ 256 }
     ensures { SharedJudged (demands rule.now) (known rule.now) (recorded recording.now).operations result (related seen.new) evidence.old evidence.new }
 {
     least_visibility(recording, rule, seen);

@@ -33,8 +33,8 @@ fn show_thin_air(recording: &Recording, evidence: &mut [u16]) -> Option<usize>
 
 // Shows a cycle of what is seen.
 fn show_cycle(recording: &Recording, seen: Table<'_>, evidence: &mut [u16]) -> Option<usize>
-    requires evidence_len { length evidence.old ≡ 256 }
-    requires by_index { (a b : ℕ) → related seen.words.now a b ≡ true → (a < length (recorded recording.now).operations) × (b < length (recorded recording.now).operations) }
+    requires evidence { length evidence.old ≡ 256 }
+    requires inside { (a b : ℕ) → related seen.words.now a b ≡ true → (a < length (recorded recording.now).operations) × (b < length (recorded recording.now).operations) }
     ensures { Sought (recorded recording.now).operations (related seen.entry.words.now) BadVisibility evidence.old evidence.new result }
 {
     let mut list = [0; 256];
@@ -81,9 +81,9 @@ fn show(
     seen: Table<'_>,
     evidence: &mut [u16],
 ) -> Option<usize>
-    requires violation_value { in_own violation ≡ true }
-    requires evidence_len { length evidence.old ≡ 256 }
-    requires by_index { (a b : ℕ) → related seen.words.now a b ≡ true → (a < length (recorded recording.now).operations) × (b < length (recorded recording.now).operations) }
+    requires own { in_own violation ≡ true }
+    requires evidence { length evidence.old ≡ 256 }
+    requires inside { (a b : ℕ) → related seen.words.now a b ≡ true → (a < length (recorded recording.now).operations) × (b < length (recorded recording.now).operations) }
     ensures { Sought (recorded recording.now).operations (related seen.entry.words.now) violation evidence.old evidence.new result }
 {
     match violation {
@@ -101,8 +101,8 @@ pub(crate) fn show_violation(
     seen: Table<'_>,
     evidence: &mut [u16],
 ) -> Option<Shown>
-    requires evidence_len { length evidence.old ≡ 256 }
-    requires by_index { (a b : ℕ) → related seen.words.now a b ≡ true → (a < length (recorded recording.now).operations) × (b < length (recorded recording.now).operations) }
+    requires evidence { length evidence.old ≡ 256 }
+    requires inside { (a b : ℕ) → related seen.words.now a b ≡ true → (a < length (recorded recording.now).operations) × (b < length (recorded recording.now).operations) }
     ensures { OwnSought (recorded recording.now).operations (related seen.entry.words.now) evidence.old evidence.new result }
 {
     for rank in 0..4 {

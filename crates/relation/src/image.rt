@@ -7,7 +7,7 @@ use rows::Row;
 
 /// The numbers that some number of `from` is related to.
 pub fn image<R: Relation>(relation: &R, from: Row) -> Row
-    ensures { Image (holds relation.now) (member from) (member result) }
+    ensures { Image (R.holds relation.now) (member from) (member result) }
 {
     let mut reached = Row::empty();
     for a in 0..256 {

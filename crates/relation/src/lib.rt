@@ -1,4 +1,6 @@
 //! Relations on operation numbers, and the one way to put numbers in an order that keeps a relation, or to find a cycle.
+#![tactic(auto)]
+
 pub mod front;
 pub mod image;
 pub mod kept;

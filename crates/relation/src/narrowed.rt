@@ -13,7 +13,7 @@ pub struct Narrowed<R> {
 }
 
 impl<R: Relation> Relation for Narrowed<R> {
-    ghost holds = { λ s a b. member s.mask a && (member s.mask b && R.Relation.holds s.relation a b) };
+    ghost holds = { λ s a b. member s.mask a && (member s.mask b && R.holds s.relation a b) };
 
     fn row(&self, a: usize) -> Row {
         if self.mask.contains(a) {

@@ -20,8 +20,8 @@ pub enum Outcome {
 /// Puts the members in an order in which `a` comes before `b` wherever the relation holds of `a` and `b`,
 /// the smallest free one first; or finds a cycle. What it finds stands at the front of `out`, the rest of which is unchanged.
 pub fn order_or_cycle<R: Relation>(relation: &R, members: Row, out: &mut [u16]) -> Outcome
-    ensures found { Found (holds relation.now) (member members) out.old out.new result }
-    ensures exactly { Exactly (holds relation.now) (member members) result }
+    ensures found { Found (R.holds relation.now) (member members) out.old out.new result }
+    ensures exactly { Exactly (R.holds relation.now) (member members) result }
 {
     if out.len() < 256 {
         return Outcome::NoRoom;
@@ -51,8 +51,8 @@ struct Placed {
 // Puts numbers of `members` in order as long as one of those that are left is free.
 fn arrange<R: Relation>(relation: &R, members: Row, list: &mut [u16; 256]) -> Placed
     ensures few { result.count ≤ 256 }
-    ensures arranged { Arranged (holds relation.now) (member members) (member result.left) list.new result.count }
-    ensures stuck { Free (holds relation.now) (member result.left) None }
+    ensures arranged { Arranged (R.holds relation.now) (member members) (member result.left) list.new result.count }
+    ensures stuck { Free (R.holds relation.now) (member result.left) None }
 {
     let mut left = members;
     let mut count = 0;
@@ -66,15 +66,15 @@ fn arrange<R: Relation>(relation: &R, members: Row, list: &mut [u16; 256]) -> Pl
 
 // The smallest number of `left` that the relation puts after none of them.
 fn free<R: Relation>(relation: &R, left: Row) -> Option<usize>
-    ensures { Free (holds relation.now) (member left) result }
+    ensures { Free (R.holds relation.now) (member left) result }
 {
     left.difference(image(relation, left)).first()
 }
 
 // Copies `count` numbers from `at` on to the front of `out`.
 fn copy_front(from: &[u16; 256], at: usize, count: usize, out: &mut [u16])
-    requires count_bound { at + count ≤ 256 }
-    requires count_in_bounds { count ≤ length out.old }
+    requires within { at + count ≤ 256 }
+    requires room { count ≤ length out.old }
     ensures front { (i : ℕ) → i < count → slice_index out.new i ≡ slice_index from.now (at + i) }
     ensures tail { Tail out.old out.new count }
 {

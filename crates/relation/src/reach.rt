@@ -9,7 +9,7 @@ use rows::Row;
 
 /// The numbers that one or more steps lead to from `a`.
 pub fn reach<R: Relation>(relation: &R, a: usize) -> Row
-    ensures { (b : ℕ) → Decides (member result b) (Steps (λ x y. holds relation.now x y ≡ true) a b) }
+    ensures { (b : ℕ) → Decides (member result b) (Steps (λ x y. R.holds relation.now x y ≡ true) a b) }
 {
     let mut reached = relation.row(a);
     'reaching: loop {

@@ -12,7 +12,7 @@ pub struct Union<A, B> {
 }
 
 impl<A: Relation, B: Relation> Relation for Union<A, B> {
-    ghost holds = { λ s a b. A.Relation.holds s.one a b || B.Relation.holds s.other a b };
+    ghost holds = { λ s a b. A.holds s.one a b || B.holds s.other a b };
 
     fn row(&self, a: usize) -> Row {
         self.one.row(a).union(self.other.row(a))

@@ -20,11 +20,11 @@ pub(crate) fn walk<R: Relation>(
     start: usize,
     path: &mut [u16; 256],
 ) -> Span
-    requires start_value { member left start ≡ true }
-    requires start_bound { start < 256 }
-    requires free { Free (holds relation.now) (member left) None }
+    requires inside { member left start ≡ true }
+    requires low { start < 256 }
+    requires free { Free (R.holds relation.now) (member left) None }
     ensures within { result.at + result.count ≤ 256 }
-    ensures ring { Ring (holds relation.now) (member left) path.new result.at result.count }
+    ensures ring { Ring (R.holds relation.now) (member left) path.new result.at result.count }
 {
     let mut at = 255;
     path[at] = start as u16;
@@ -46,10 +46,10 @@ pub(crate) fn walk<R: Relation>(
 
 // A number of `left` that is related to `b`.
 fn predecessor<R: Relation>(relation: &R, left: Row, b: usize) -> usize
-    requires { (a : ℕ) × (member left a ≡ true) × (holds relation.now a b ≡ true) }
+    requires { (a : ℕ) × (member left a ≡ true) × (R.holds relation.now a b ≡ true) }
     ensures low { result < 256 }
     ensures inside { member left result ≡ true }
-    ensures before { holds relation.now result b ≡ true }
+    ensures before { R.holds relation.now result b ≡ true }
 {
     for a in 0..256 {
         if left.contains(a) {
@@ -63,8 +63,8 @@ fn predecessor<R: Relation>(relation: &R, left: Row, b: usize) -> usize
 
 // Where `value` stands in the path from `at` on.
 fn place(path: &[u16; 256], at: usize, value: usize) -> usize
-    requires at_bound { at ≤ 256 }
-    requires by_index { (i : ℕ) × (at ≤ i) × (i < 256) × (slice_index path.now i ≡ value) }
+    requires within { at ≤ 256 }
+    requires stands { (i : ℕ) × (at ≤ i) × (i < 256) × (slice_index path.now i ≡ value) }
     ensures { (at ≤ result) × (result < 256) × (slice_index path.now result ≡ value) }
 {
     for i in at..256 {

@@ -1,5 +1,7 @@
 //! Sets of operation numbers, and tables with such a set for each number, by words of 64 bits.
 //! Only this crate knows of words and bits; everyone else speaks of members and pairs.
+#![tactic(auto)]
+
 pub mod row;
 pub mod table;
 

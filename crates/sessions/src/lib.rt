@@ -1,5 +1,7 @@
 //! What it means that a recording is explained by sessions, and what stands against it: what has happened before what for
 //! the last operation of a station, and the violations of that.
+#![tactic(auto)]
+
 pub mod happening;
 pub mod listed;
 pub mod past;

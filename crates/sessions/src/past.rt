@@ -48,9 +48,9 @@ fn put_past_row(
     table: &mut [u64],
     a: usize,
 )
-    requires a_bound { a < 256 }
-    requires past_table { PastTable (recorded recording.now).operations (related seen.words.now) last a table.old }
-    requires by_index { (k : ℕ) → Decides (member past k) (PastOperation (recorded recording.now).operations (related seen.words.now) last k) }
+    requires low { a < 256 }
+    requires table { PastTable (recorded recording.now).operations (related seen.words.now) last a table.old }
+    requires past { (k : ℕ) → Decides (member past k) (PastOperation (recorded recording.now).operations (related seen.words.now) last k) }
     ensures { PastTable (recorded recording.now).operations (related seen.entry.words.now) last (a + 1) table.new }
 {
     if past.contains(a) {

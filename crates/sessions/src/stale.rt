@@ -67,8 +67,8 @@ fn first_between(
     read: usize,
     source: usize,
 ) -> Option<usize>
-    requires station_read { StationRead (recorded recording.now).operations last read }
-    requires source_of { SourceOf (recorded recording.now).operations source read }
+    requires read { StationRead (recorded recording.now).operations last read }
+    requires source { SourceOf (recorded recording.now).operations source read }
     ensures { Smallest (CyclicHb (recorded recording.now).operations last (related happened.entry.words.now) read source) result }
 {
     for other in 0..recording.count() {

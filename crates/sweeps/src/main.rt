@@ -1,4 +1,6 @@
 //! Prints how many sweeps the growth of a visibility takes, for each rule and 64, 128 and 256 operations, and on stderr how long.
+#![tactic(auto)]
+
 use recording::Recording;
 use rows::{Row, put_row};
 use std::io;

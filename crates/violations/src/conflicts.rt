@@ -24,7 +24,7 @@ pub fn put_conflicts(recording: &Recording, seen: Table<'_>, table: &mut [u64])
 // Adds the conflicts of one number, if it names a read with a source.
 fn put_rivals(recording: &Recording, seen: Table<'_>, table: &mut [u64], read: usize)
     requires tabled { Tabled (recorded recording.now).operations (related seen.words.now) read 0 table.old }
-    requires read_in_bounds { read < length (recorded recording.now).operations }
+    requires inside { read < length (recorded recording.now).operations }
     ensures { Tabled (recorded recording.now).operations (related seen.entry.words.now) (read + 1) 0 table.new }
 {
     let Ok(Some(source)) = recording.source(read) else {

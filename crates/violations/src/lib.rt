@@ -1,4 +1,6 @@
 //! What explained means, the violations that stand against a recording, and how each is found; the proofs say why they decide.
+#![tactic(auto)]
+
 pub mod conflicts;
 pub mod evidence;
 pub mod overtaken;

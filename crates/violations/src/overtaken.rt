@@ -43,8 +43,8 @@ fn overtaker(
     read: usize,
     source: usize,
 ) -> Option<usize>
-    requires source_of { SourceOf (recorded recording.now).operations source read }
-    requires by_index { (k : ℕ) → Decides (member mask k) (IsWrite (recorded recording.now).operations k) }
+    requires source { SourceOf (recorded recording.now).operations source read }
+    requires mask { (k : ℕ) → Decides (member mask k) (IsWrite (recorded recording.now).operations k) }
     ensures { Smallest (BadRead (recorded recording.now).operations (related seen.entry.words.now) read source) result }
 {
     let rivals = rivals_of(recording, seen, read, source);

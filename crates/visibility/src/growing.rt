@@ -48,8 +48,8 @@ fn round<R: Rule>(rule: &R, outline: &Outline, table: &mut [u64]) -> bool
 
 // Adds to row `a` what is demanded of it, and says whether that was anything new.
 fn grow_row<R: Rule>(rule: &R, outline: &Outline, table: &mut [u64], a: usize) -> bool
-    requires table_len { length table.old ≡ 1024 }
-    requires a_bound { a < 256 }
+    requires long { length table.old ≡ 1024 }
+    requires low { a < 256 }
     ensures { Grown (Asked (demands rule.now) (shapes_of outline.now)) a (a + 1) table.old table.new result }
 {
     let view = Table { words: table };

@@ -1,4 +1,6 @@
 //! Visibility rules, and the least visibility of a recording under one.
+#![tactic(auto)]
+
 pub mod causal;
 mod draft;
 pub mod growing;

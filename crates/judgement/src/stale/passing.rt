@@ -18,8 +18,8 @@ pub(crate) fn pass_stations(
     seen: Table<'_>,
     working: &mut [u64],
 ) -> Result<Option<StationRivals>, StationPair>
-    requires working_len { length working.old ≡ 1024 }
-    requires by_index { (a b : ℕ) → related seen.words.now a b ≡ true → (a < length (recorded recording.now).operations) × (b < length (recorded recording.now).operations) }
+    requires working { length working.old ≡ 1024 }
+    requires inside { (a b : ℕ) → related seen.words.now a b ≡ true → (a < length (recorded recording.now).operations) × (b < length (recorded recording.now).operations) }
     ensures { PassedTo (recorded recording.now).operations (related seen.entry.words.now) (recorded recording.now).stations result }
 {
     let mut cyclic = None;
@@ -37,9 +37,9 @@ fn pass(
     station: usize,
     cyclic: Option<StationRivals>,
 ) -> Result<Option<StationRivals>, StationPair>
-    requires working_len { length working.old ≡ 1024 }
-    requires by_index { (a b : ℕ) → related seen.words.now a b ≡ true → (a < length (recorded recording.now).operations) × (b < length (recorded recording.now).operations) }
-    requires station_bound { station < (recorded recording.now).stations }
+    requires working { length working.old ≡ 1024 }
+    requires inside { (a b : ℕ) → related seen.words.now a b ≡ true → (a < length (recorded recording.now).operations) × (b < length (recorded recording.now).operations) }
+    requires station { station < (recorded recording.now).stations }
     requires passed { Passed (recorded recording.now).operations (related seen.words.now) station cyclic }
     ensures { PassedTo (recorded recording.now).operations (related seen.entry.words.now) (station + 1) result }
 {

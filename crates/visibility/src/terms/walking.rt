@@ -58,8 +58,8 @@ impl Rule for TermList {
 
 // What the steps of term `i` join `a` to.
 fn reach(terms: &TermList, i: usize, outline: &Outline, seen: Table<'_>, a: usize) -> Row
-    requires i_lt_count { i < terms.now.count }
-    requires a_bound { a < 256 }
+    requires term { i < terms.now.count }
+    requires low { a < 256 }
     ensures { (b : ℕ) → Decides (member result b) (Walk (shapes_of outline.now) (related seen.entry.words.now) (term_of terms.now i) a b) }
 {
     let mut reached = Row::of(a);

@@ -7,5 +7,5 @@ use Rattle.judgement.proofs.arbitration.arbitrate.Goals as goal
 pub returns : goal.returns
 returns c =
     let long : length c.order_or_cycle.new.out ≡ 256 = search rules in
-    arbitrated (recorded c.args.recording.now).operations (related c.args.seen.words.now) (member c.writes-mask.result) c.writes-mask.ensures c.args.conflicts.words.now c.requires.1
-    c.args.evidence.now c.order_or_cycle.new.out c.requires.0 long c.order_or_cycle.result c.order_or_cycle.ensures.found
+    arbitrated (recorded c.args.recording.now).operations (related c.args.seen.words.now) (member c.writes-mask.result) c.writes-mask.ensures c.args.conflicts.words.now c.requires.tabled
+    c.args.evidence.now c.order_or_cycle.new.out c.requires.evidence long c.order_or_cycle.result c.order_or_cycle.ensures.found

@@ -18,4 +18,4 @@ returns g c =
     let long : length c.own_verdict-verdict.new.evidence ≡ 256 = search rules in
     order_given (g.R.Rule.demands c.args.rule.now) (g.R.Rule.known c.args.rule.now) (recorded c.args.recording.now).operations (valid_of c.args.recording.now) c.own_verdict-verdict.result
     (related c.own_verdict-verdict.new.seen) c.args.evidence.now c.own_verdict-verdict.new.evidence c.own_verdict-verdict.ensures c.in_ok-grant.ensures
-    long c.args.read c.order_writes.result c.order_writes.new.evidence c.requires.2 c.order_writes.ensures
+    long c.args.read c.order_writes.result c.order_writes.new.evidence c.requires.read c.order_writes.ensures

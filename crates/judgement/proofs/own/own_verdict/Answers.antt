@@ -13,5 +13,5 @@ returns g c =
     let ops = (recorded c.args.recording.now).operations in
     let V = related c.least_visibility.new.table in
     subst (λ v. OwnJudged D known ops v V c.args.evidence.now c.show_violation-shown.new.evidence) (sym c.of.ensures)
-    (own_judged D known c.label.result c.label.ensures ops (valid_of c.args.recording.now) V (c.least_visibility.ensures.least c.requires.0) c.args.evidence.now c.show_violation-shown.new.evidence
+    (own_judged D known c.label.result c.label.ensures ops (valid_of c.args.recording.now) V (c.least_visibility.ensures.least c.requires.seen) c.args.evidence.now c.show_violation-shown.new.evidence
     c.show_violation-shown.result c.show_violation-shown.ensures)

@@ -11,10 +11,10 @@ returns-then-is_some c =
     let ops = (recorded c.args.recording.now).operations in
     let V = related c.least_visibility.new.table in
     subst (λ v. SessionJudged ops v V c.args.evidence.now c.show_violation-shown.new.evidence) (sym c.of.ensures)
-    (session_violated ops (valid_of c.args.recording.now) V (c.least_visibility.ensures.least c.requires.0) c.args.evidence.now c.show_violation-shown.new.evidence
+    (session_violated ops (valid_of c.args.recording.now) V (c.least_visibility.ensures.least c.requires.seen) c.args.evidence.now c.show_violation-shown.new.evidence
     c.show_violation-shown.result (sym c.is_some.ensures ∙ c.if-is_some.true) c.show_violation-shown.ensures)
 
 pub returns : goal.returns
 returns c =
-    session_judged (recorded c.args.recording.now).operations (valid_of c.args.recording.now) (related c.least_visibility.new.table) (c.least_visibility.ensures.least c.requires.0) c.args.evidence.now
+    session_judged (recorded c.args.recording.now).operations (valid_of c.args.recording.now) (related c.least_visibility.new.table) (c.least_visibility.ensures.least c.requires.seen) c.args.evidence.now
     c.show_stale.new.evidence c.show_violation-shown.new.evidence c.show_violation-shown.result (sym c.is_some.ensures ∙ c.if-is_some.false) c.show_violation-shown.ensures c.show_stale.result c.show_stale.ensures

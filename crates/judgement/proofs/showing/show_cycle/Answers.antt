@@ -19,7 +19,7 @@ returns-in-Cycle c =
     let room : length list ≡ 256 = search rules in
     let ring = ring_cycle_of list n (omega arith) V (member c.below.result) (In V) (λ a b h k r. r) found.2 in
     record {
-      shows = (refl, subst (Cycle (In V)) (sym (front_same list c.args.evidence.now c.put_front.new.out n (omega arith) (c.put_front.ensures.front (front_fits list c.args.evidence.now c.put_front.new.out n (omega arith) c.requires.0 few)))) ring);
+      shows = (refl, subst (Cycle (In V)) (sym (front_same list c.args.evidence.now c.put_front.new.out n (omega arith) (c.put_front.ensures.front (front_fits list c.args.evidence.now c.put_front.new.out n (omega arith) c.requires.evidence few)))) ring);
       few = few;
       tail = front_tail list c.args.evidence.now c.put_front.new.out n (omega arith) c.put_front.ensures.tail;
     }
@@ -31,7 +31,7 @@ returns-in_default c =
     let ops = (recorded c.args.recording.now).operations in
     let most = few_of c.args.recording.now in
     let inside : (a : ℕ) → a < length ops → M a ≡ true = λ a h. c.below.ensures a ∙ lt-ltb a (min c.count.result 256) (omega arith) in (
-      within_acyclic V M (λ a b h. let w = c.requires.1 a b h in (inside a w.0, inside b w.1))
+      within_acyclic V M (λ a b h. let w = c.requires.inside a b h in (inside a w.0, inside b w.1))
           (no_cycle V M (replicate 256 0) c.order_or_cycle.new.out c.order_or_cycle.result c.order_or_cycle.ensures.found c.order_or_cycle.ensures.exactly (omega (arith, length-replicate {A = ℕ} 256 0)) c.in_default.not-Cycle),
       refl,
     )

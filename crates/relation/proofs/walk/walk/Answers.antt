@@ -10,9 +10,9 @@ pub walking-init : goal.walking-init
 walking-init g c =
     let l : length c.args.path.now ≡ 256 = search rules in
     let n = size_none (has c.empty.result.words) 256 c.empty.ensures in
-    let s = size_with (has c.empty.result.words) (has c.with-seen.result.words) c.args.start 256 c.requires.1 (c.empty.ensures c.args.start) (c.with-seen.ensures.inside c.requires.1) in (
+    let s = size_with (has c.empty.result.words) (has c.with-seen.result.words) c.args.start 256 c.requires.low (c.empty.ensures c.args.start) (c.with-seen.ensures.inside c.requires.low) in (
       walked_start (g.R.Relation.holds c.args.relation.now) (has c.args.left.words) (has c.empty.result.words) (has c.with-seen.result.words)
-          c.args.path.now c.args.start l c.requires.0 c.empty.ensures (c.with-seen.ensures.inside c.requires.1),
+          c.args.path.now c.args.start l c.requires.inside c.empty.ensures (c.with-seen.ensures.inside c.requires.low),
       omega arith,
       omega arith,
       length-set c.args.path.now 255 c.args.start ∙ l,

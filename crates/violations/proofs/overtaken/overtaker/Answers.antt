@@ -16,7 +16,7 @@ returns c =
     let w = c.args.source in
     let M = member c.args.mask in
     let led : (k : ℕ) → Decides (member c.reach.result k) (Steps (Writes ops V) w k) =
-    λ k. (λ h. narrow_steps ops V M c.requires.1 w k ((c.reach.ensures k).0 h), λ s. (c.reach.ensures k).1 (steps_narrow ops V M c.requires.1 w k s)) in
+    λ k. (λ h. narrow_steps ops V M c.requires.mask w k ((c.reach.ensures k).0 h), λ s. (c.reach.ensures k).1 (steps_narrow ops V M c.requires.mask w k s)) in
     let both : (k : ℕ) → Decides (member c.intersection.result k) (BadRead ops V r w k) =
     λ k.
     let d = decides_both (member c.reach.result k) (member c.rivals_of-rivals.result k) (member c.intersection.result k) (Steps (Writes ops V) w k) (Rival ops V r w k) (c.intersection.ensures k) (led k) (c.rivals_of-rivals.ensures k) in

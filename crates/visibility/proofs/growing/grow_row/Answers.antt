@@ -9,13 +9,13 @@ use Rattle.visibility.proofs.growing.grow_row.Goals as goal
 pub returns-then-same : goal.returns-then-same
 returns-then-same g c =
     row_same (Asked (g.R.Rule.demands c.args.rule.now) (shapes_of c.args.outline.now)) c.args.a c.args.table.now (member c.row-old.result)
-    (member c.demanded.result) (member c.union-new.result) c.requires.1 c.requires.0 c.row-old.ensures c.demanded.ensures c.union-new.ensures
+    (member c.demanded.result) (member c.union-new.result) c.requires.low c.requires.long c.row-old.ensures c.demanded.ensures c.union-new.ensures
     (c.if-same.ensures.0 refl)
 
 pub returns : goal.returns
 returns g c =
     row_grown (Asked (g.R.Rule.demands c.args.rule.now) (shapes_of c.args.outline.now)) c.args.a c.args.table.now (member c.row-old.result)
-    (member c.demanded.result) (member c.union-new.result) c.requires.1 c.requires.0 c.row-old.ensures c.demanded.ensures c.union-new.ensures
+    (member c.demanded.result) (member c.union-new.result) c.requires.low c.requires.long c.row-old.ensures c.demanded.ensures c.union-new.ensures
     (λ P Q i a b d. record { first = d.first; second = d.second; demanded = g.met.R.Rule.grows c.args.rule.now (shapes_of c.args.outline.now) P Q i a b d.demanded })
-    c.put_row.new.table (λ b. c.put_row.ensures.here c.requires.0 c.requires.1 b) c.put_row.ensures.others (c.put_row.ensures.long ∙ c.requires.0)
+    c.put_row.new.table (λ b. c.put_row.ensures.here c.requires.long c.requires.low b) c.put_row.ensures.others (c.put_row.ensures.long ∙ c.requires.long)
     (not_from_Decides c.same.result c.same.ensures c.if-same.false)

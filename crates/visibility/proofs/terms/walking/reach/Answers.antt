@@ -12,7 +12,7 @@ pub loop-j-init : goal.loop-j-init
 loop-j-init c = λ b.
     let is = c.of-reached.ensures b in (
       λ h. sym (eqb-true b c.args.a (and_parts (ltb c.args.a 256) (eqb b c.args.a) (sym is ∙ h)).1),
-      λ e. is ∙ and_from (ltb c.args.a 256) (eqb b c.args.a) (lt-ltb c.args.a 256 c.requires.1) (eq-eqb b c.args.a (sym e)),
+      λ e. is ∙ and_from (ltb c.args.a 256) (eqb b c.args.a) (lt-ltb c.args.a 256 c.requires.low) (eq-eqb b c.args.a (sym e)),
     )
 
 pub loop-j-preserved : goal.loop-j-preserved
@@ -22,7 +22,7 @@ loop-j-preserved c =
     let t = c.args.terms.now in
     let ls = drop (4 * c.args.i) t.letters in
     let j = c.loop-j.j in
-    let fit = t.fit c.args.i c.requires.0 in
+    let fit = t.fit c.args.i c.requires.term in
     let room : j < length ls = omega (arith, length-drop (4 * c.args.i) t.letters) in
     let more : take (j + 1) ls ≡ take j ls ++ get_or t.letters (4 * c.args.i + j) Station ∷ [] =
     take_more ls j Station room ∙ ap (λ x. take j ls ++ x ∷ []) (get_or-drop (4 * c.args.i) t.letters j Station) in
