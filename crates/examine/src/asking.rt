@@ -19,7 +19,7 @@ pub fn examine<R: Rule>(
     working: &mut [u64],
     evidence: &mut [u16],
 ) -> Reply
-    ensures promise { Promise (demands rule.now) (known rule.now) calls.now question (lent seen.old working.old evidence.old) result (lent seen.new working.new evidence.new) }
+    ensures promise { Promise (R.demands rule.now) (R.known rule.now) calls.now question (lent seen.old working.old evidence.old) result (lent seen.new working.new evidence.new) }
 {
     let recording = told(calls);
     ask(&recording, question, rule, seen, working, evidence)
@@ -34,7 +34,7 @@ fn ask<R: Rule>(
     working: &mut [u64],
     evidence: &mut [u16],
 ) -> Reply
-    ensures { Replies (demands rule.now) (known rule.now) (recorded recording.now) question (lent seen.old working.old evidence.old) result (lent seen.new working.new evidence.new) }
+    ensures { Replies (R.demands rule.now) (R.known rule.now) (recorded recording.now) question (lent seen.old working.old evidence.old) result (lent seen.new working.new evidence.new) }
 {
     match question {
         Question::Own => Reply::Judged(judge_own(recording, rule, seen, working, evidence)),

@@ -28,7 +28,7 @@ pub fn order_for_read<R: Rule>(
     working: &mut [u64],
     evidence: &mut [u16],
 ) -> Result<usize, Refusal>
-    ensures answered { OrderAnswer (demands rule.now) (known rule.now) (recorded recording.now).operations read (lent seen.old working.old evidence.old) result (lent seen.new working.new evidence.new) }
+    ensures answered { OrderAnswer (R.demands rule.now) (R.known rule.now) (recorded recording.now).operations read (lent seen.old working.old evidence.old) result (lent seen.new working.new evidence.new) }
 {
     if !lengths_fit(seen, working, evidence) {
         return Err(Refusal::WrongLength);
@@ -51,7 +51,7 @@ fn own_order<R: Rule>(
     requires seen { length seen.old ≡ 1024 }
     requires evidence { length evidence.old ≡ 256 }
     requires read { IsRead (recorded recording.now).operations read }
-    ensures { OrderFound (demands rule.now) (known rule.now) (recorded recording.now).operations read (related seen.new) evidence.old evidence.new result }
+    ensures { OrderFound (R.demands rule.now) (R.known rule.now) (recorded recording.now).operations read (related seen.new) evidence.old evidence.new result }
 {
     let verdict = own_verdict(recording, rule, seen, evidence);
     grant(verdict)?;

@@ -21,7 +21,7 @@ pub fn judge_own<R: Rule>(
     working: &mut [u64],
     evidence: &mut [u16],
 ) -> Result<Verdict, Refusal>
-    ensures judged { JudgementAnswer (OwnJudged (demands rule.now) (known rule.now) (recorded recording.now).operations) (lent seen.old working.old evidence.old) result (lent seen.new working.new evidence.new) }
+    ensures judged { JudgementAnswer (OwnJudged (R.demands rule.now) (R.known rule.now) (recorded recording.now).operations) (lent seen.old working.old evidence.old) result (lent seen.new working.new evidence.new) }
 {
     if !lengths_fit(seen, working, evidence) {
         return Err(Refusal::WrongLength);
@@ -38,7 +38,7 @@ pub(crate) fn own_verdict<R: Rule>(
 ) -> Verdict
     requires seen { length seen.old ≡ 1024 }
     requires evidence { length evidence.old ≡ 256 }
-    ensures { OwnJudged (demands rule.now) (known rule.now) (recorded recording.now).operations result (related seen.new) evidence.old evidence.new }
+    ensures { OwnJudged (R.demands rule.now) (R.known rule.now) (recorded recording.now).operations result (related seen.new) evidence.old evidence.new }
 {
     least_visibility(recording, rule, seen);
     let shown = show_violation(recording, Table { words: seen }, evidence);

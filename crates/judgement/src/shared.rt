@@ -23,7 +23,7 @@ pub fn judge_shared<R: Rule>(
     working: &mut [u64],
     evidence: &mut [u16],
 ) -> Result<Verdict, Refusal>
-    ensures judged { JudgementAnswer (SharedJudged (demands rule.now) (known rule.now) (recorded recording.now).operations) (lent seen.old working.old evidence.old) result (lent seen.new working.new evidence.new) }
+    ensures judged { JudgementAnswer (SharedJudged (R.demands rule.now) (R.known rule.now) (recorded recording.now).operations) (lent seen.old working.old evidence.old) result (lent seen.new working.new evidence.new) }
 {
     if !lengths_fit(seen, working, evidence) {
         return Err(Refusal::WrongLength);
@@ -42,7 +42,7 @@ fn shared_verdict<R: Rule>(
     requires seen { length seen.old ≡ 1024 }
     requires working { length working.old ≡ 1024 }
     requires evidence { length evidence.old ≡ 256 }
-    ensures { SharedJudged (demands rule.now) (known rule.now) (recorded recording.now).operations result (related seen.new) evidence.old evidence.new }
+    ensures { SharedJudged (R.demands rule.now) (R.known rule.now) (recorded recording.now).operations result (related seen.new) evidence.old evidence.new }
 {
     least_visibility(recording, rule, seen);
     let view = Table { words: seen };

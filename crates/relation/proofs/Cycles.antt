@@ -1,8 +1,7 @@
 -- Cycles: an order has none, a ring is one, and one of a union uses a pair of each part that has none alone.
-use Rattle.std.proofs.Common.{◌≡◌, ℕ, zero, suc, ◌+◌, ◌-◌, ◌<◌, ◌≤◌, Bool, true, false, ◌⊎◌, ◌↔◌, List, get_or, sym, refl, ap, ◌∙◌, subst, subst₂, inl, inr, ⊎_elim, arith}
-use mathlib.Core.Bool.{Bool-discrete}
+use Rattle.std.proofs.Common.{◌≡◌, ℕ, zero, suc, ◌+◌, ◌-◌, ◌<◌, Bool, true, ◌⊎◌, List, get_or, sym, refl, subst, subst₂, inl, inr, arith}
 use Rattle.relation.specs.Orders.{Ordered, Ring}
-use Rattle.relation.specs.Steps.{Steps, one, more, Acyclic, Among, Lists, Extension, ExtensionTheorem, UnionTheorem, Holds, Precedes}
+use Rattle.relation.specs.Steps.{Steps, one, more, Acyclic, Among, Extension, ExtensionTheorem, UnionTheorem}
 use Rattle.relation.proofs.Extending.{steps_join, steps_precede, precedes_irrefl, dec_true, extend}
 
 -- ── Orders by places ──

@@ -1,11 +1,10 @@
 -- One turn of each loop.
-use Rattle.std.proofs.Common.{◌≡◌, ℕ, zero, suc, ◌+◌, ◌-◌, ◌<◌, ◌≤◌, Bool, true, false, not, ◌&&◌, ◌||◌, eqb, ◌⊎◌, List, length, get_or, take, drop, set, Some, None, Option, sym, refl, ap, ◌∙◌, subst, ap₂, inl, inr, arith}
-use Rattle.std.proofs.lemmas.Bool.Decides.{nat_tests}
+use Rattle.std.proofs.Common.{◌≡◌, ℕ, ◌+◌, ◌-◌, ◌<◌, ◌≤◌, Bool, true, false, not, ◌&&◌, ◌||◌, eqb, List, length, get_or, take, drop, set, sym, refl, ap, ◌∙◌, subst, ap₂, inl, inr, arith}
 use Rattle.std.proofs.lemmas.List.{get_or-set_same, get_or-set_other, get_or-take, get_or-drop, length-take-le, length-drop}
-use Rattle.std.proofs.lemmas.Bool.{cases_eq, cases_Bool, cases_lt, both_ways, eq-eqb, ne_eqb, and_parts, and_cases, or_cases, or_left, or_right, not-true, not-false, eqb-true, and_left, and_from, not_from_true, not_from_false}
+use Rattle.std.proofs.lemmas.Bool.{cases_eq, both_ways, eq-eqb, ne_eqb, and_parts, or_cases, or_left, or_right, eqb-true, and_left, and_from, not_from_false}
 use Rattle.rows.specs.Counts.{size}
 use Rattle.rows.proofs.Sizes.{size_le, size_with, size_without}
-use Rattle.relation.specs.Orders.{Image, Free, Arranged, Ordered, Ring, Tail}
+use Rattle.relation.specs.Orders.{Image, Arranged, Ordered, Ring, Tail}
 
 -- the numbers that those of `left` below n block
 pub record Imaging (R : ℕ → ℕ → Bool) (left blocked : ℕ → Bool) (n : ℕ) : Type 0 where

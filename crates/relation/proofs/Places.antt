@@ -1,5 +1,5 @@
 -- The words on lists of numbers, by places.
-use Rattle.std.proofs.Common.{◌≡◌, ℕ, zero, suc, ◌<◌, ◌⊎◌, ◌↔◌, List, [], ◌∷◌, length, get_or, sym, refl, ap, ◌∙◌, subst, inl, inr, arith}
+use Rattle.std.proofs.Common.{◌≡◌, ℕ, zero, suc, ◌<◌, List, [], ◌∷◌, length, get_or, sym, refl, ap, inl, inr, arith}
 use Rattle.relation.specs.Steps.{Holds, Once, Precedes, PlacesTheorem}
 
 place_of : (l : List ℕ) (a : ℕ) → Holds l a → (i : ℕ) × (i < length l) × (get_or l i 0 ≡ a)

@@ -13,7 +13,7 @@ use rows::{Table, put_row};
 /// Adds to a table of 1,024 words what the rule demands, until nothing more is demanded: the least relation that holds
 /// what the table held and all that is demanded under it. Words of another length are left as they are.
 pub fn grow<R: Rule>(rule: &R, outline: &Outline, table: &mut [u64])
-    ensures least { length table.old ≡ 1024 → Least (Asked (demands rule.now) (shapes_of outline.now)) (related table.old) (related table.new) }
+    ensures least { length table.old ≡ 1024 → Least (Asked (R.demands rule.now) (shapes_of outline.now)) (related table.old) (related table.new) }
     ensures unfit { (length table.old ≢ 1024) → table.new ≡ table.old }
 {
     if table.len() == 1024 {
@@ -23,7 +23,7 @@ pub fn grow<R: Rule>(rule: &R, outline: &Outline, table: &mut [u64])
 
 /// One round of the growth, for whoever counts them: says whether anything was new. Words of another length are left as they are.
 pub fn sweep<R: Rule>(rule: &R, outline: &Outline, table: &mut [u64]) -> bool
-    ensures grown { length table.old ≡ 1024 → Grown (Asked (demands rule.now) (shapes_of outline.now)) 0 (length (shapes_of outline.now)) table.old table.new result }
+    ensures grown { length table.old ≡ 1024 → Grown (Asked (R.demands rule.now) (shapes_of outline.now)) 0 (length (shapes_of outline.now)) table.old table.new result }
     ensures unfit { (length table.old ≢ 1024) → (result ≡ false) × (table.new ≡ table.old) }
 {
     if table.len() == 1024 {
@@ -35,7 +35,7 @@ pub fn sweep<R: Rule>(rule: &R, outline: &Outline, table: &mut [u64]) -> bool
 // One round over the rows, the last one first; says whether anything was new.
 fn round<R: Rule>(rule: &R, outline: &Outline, table: &mut [u64]) -> bool
     requires { length table.old ≡ 1024 }
-    ensures { Grown (Asked (demands rule.now) (shapes_of outline.now)) 0 (length (shapes_of outline.now)) table.old table.new result }
+    ensures { Grown (Asked (R.demands rule.now) (shapes_of outline.now)) 0 (length (shapes_of outline.now)) table.old table.new result }
 {
     let mut changed = false;
     let mut a = outline.count();
@@ -50,7 +50,7 @@ fn round<R: Rule>(rule: &R, outline: &Outline, table: &mut [u64]) -> bool
 fn grow_row<R: Rule>(rule: &R, outline: &Outline, table: &mut [u64], a: usize) -> bool
     requires long { length table.old ≡ 1024 }
     requires low { a < 256 }
-    ensures { Grown (Asked (demands rule.now) (shapes_of outline.now)) a (a + 1) table.old table.new result }
+    ensures { Grown (Asked (R.demands rule.now) (shapes_of outline.now)) a (a + 1) table.old table.new result }
 {
     let view = Table { words: table };
     let old = view.row(a);

@@ -13,7 +13,7 @@ use rows::{Table, clear, put_row};
 /// Makes a table of 1,024 words the least visibility of the recording under the rule, pair for pair.
 /// Words of another length are left as they are.
 pub fn least_visibility<R: Rule>(recording: &Recording, rule: &R, table: &mut [u64])
-    ensures least { length table.old ≡ 1024 → IsLeast (demands rule.now) (recorded recording.now).operations (related table.new) }
+    ensures least { length table.old ≡ 1024 → IsLeast (R.demands rule.now) (recorded recording.now).operations (related table.new) }
     ensures unfit { (length table.old ≢ 1024) → table.new ≡ table.old }
 {
     if table.len() == 1024 {

@@ -1,4 +1,3 @@
-use Rattle.std.proofs.Common.{◌≡◌, ℕ, ◌+◌, ◌-◌, ◌<◌, ◌≤◌, true, false, length, get_or}
 use Rattle.rows.specs.Members.{has}
 use Rattle.relation.proofs.Loops.{Imaging}
 use Rattle.relation.proofs.image.image.Given as goal

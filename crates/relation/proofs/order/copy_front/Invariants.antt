@@ -1,5 +1,4 @@
-use Rattle.std.proofs.Common.{◌≡◌, ℕ, ◌+◌, ◌-◌, ◌<◌, ◌≤◌, true, false, length, get_or}
-use Rattle.rows.specs.Members.{has}
+use Rattle.std.proofs.Common.{◌≡◌, ℕ, ◌+◌, ◌<◌, get_or}
 use Rattle.relation.specs.Orders.{Tail}
 use Rattle.relation.proofs.order.copy_front.Given as goal
 

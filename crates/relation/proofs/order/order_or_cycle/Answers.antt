@@ -1,4 +1,4 @@
-use Rattle.std.proofs.Common.{◌≡◌, ◌≤◌, length, arith}
+use Rattle.std.proofs.Common.{arith}
 use Rattle.rows.specs.Members.{member}
 use Rattle.relation.specs.Orders.{Ordered, Ring}
 use Rattle.relation.proofs.Cycles.{ordered_acyclic, ring_cycle}

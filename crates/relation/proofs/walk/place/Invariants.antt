@@ -1,5 +1,4 @@
-use Rattle.std.proofs.Common.{◌≡◌, ℕ, ◌+◌, ◌-◌, ◌<◌, ◌≤◌, true, false, length, get_or}
-use Rattle.rows.specs.Members.{has}
+use Rattle.std.proofs.Common.{◌≡◌, ℕ, ◌<◌, ◌≤◌, get_or}
 use Rattle.relation.proofs.walk.place.Given as goal
 
 abbrev pub invariant-loop-i : goal.invariant-loop-i

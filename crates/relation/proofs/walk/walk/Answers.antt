@@ -1,8 +1,7 @@
-use Rattle.std.proofs.Common.{◌≡◌, ℕ, ◌+◌, ◌-◌, ◌<◌, ◌≤◌, false, length, get_or, set, sym, refl, ap, ◌∙◌, subst, arith, rules}
+use Rattle.std.proofs.Common.{◌≡◌, ◌-◌, ◌<◌, false, length, sym, ◌∙◌, arith, rules}
 use Rattle.std.proofs.lemmas.List.{length-set}
 use Rattle.rows.specs.Members.{has}
-use Rattle.rows.specs.Counts.{size}
-use Rattle.rows.proofs.Sizes.{size_le, size_with, size_none}
+use Rattle.rows.proofs.Sizes.{size_with, size_none}
 use Rattle.relation.proofs.Loops.{space, walked_start, walked_more, walked_ring}
 use Rattle.relation.proofs.walk.walk.Goals as goal
 

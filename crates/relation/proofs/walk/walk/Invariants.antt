@@ -1,4 +1,4 @@
-use Rattle.std.proofs.Common.{◌≡◌, ℕ, ◌+◌, ◌-◌, ◌<◌, ◌≤◌, true, false, length, get_or}
+use Rattle.std.proofs.Common.{◌≡◌, ◌+◌, ◌<◌, length}
 use Rattle.rows.specs.Members.{has}
 use Rattle.relation.proofs.Loops.{Walked}
 use Rattle.rows.specs.Counts.{size}

@@ -1,4 +1,4 @@
-use Rattle.std.proofs.Common.{◌≡◌, ℕ, ◌-◌, ◌<◌, ltb, ap, ◌∙◌}
+use Rattle.std.proofs.Common.{ltb, ap, ◌∙◌}
 use Rattle.rows.proofs.Rows.{has_below_n}
 use Rattle.rows.proofs.row.Row.below.Goals as goal
 

@@ -1,4 +1,4 @@
-use Rattle.std.proofs.Common.{◌≡◌, ℕ, ◌+◌, get_or, sym, ◌∙◌, w64, Fits, rules}
+use Rattle.std.proofs.Common.{ℕ, ◌+◌, get_or, sym, ◌∙◌, w64, Fits, rules}
 use Rattle.rows.proofs.Sizes.{size_words}
 use Rattle.rows.proofs.row.Row.count.Goals as goal
 

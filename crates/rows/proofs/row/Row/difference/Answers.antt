@@ -1,4 +1,4 @@
-use Rattle.std.proofs.Common.{◌≡◌, ℕ, ◌^◌, ◌<◌, get_or, w64, Fits, rules}
+use Rattle.std.proofs.Common.{ℕ, get_or, w64, Fits, rules}
 use Rattle.rows.proofs.Rows.{has_minus}
 use Rattle.rows.proofs.row.Row.difference.Goals as goal
 
