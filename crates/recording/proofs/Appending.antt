@@ -1,15 +1,15 @@
 -- What one more operation at the end of the list keeps.
-use Rattle.std.proofs.Common.{◌≡◌, ℕ, zero, suc, ◌+◌, ◌<◌, ◌≤◌, Bool, true, false, cond, eqb, ◌⊎◌, List, [], ◌∷◌, ◌++◌, length, get_or, set, replicate, Some, None, Option, sym, refl, ap, ◌∙◌, subst, inl, inr, ⊎_elim, append_assoc, append-nil, arith, get_or-set_other, get_or-set_same}
+use Rattle.std.proofs.Common.{◌≡◌, ℕ, suc, ◌+◌, ◌<◌, ◌≤◌, true, false, cond, eqb, ◌⊎◌, List, [], ◌∷◌, ◌++◌, length, set, replicate, Some, None, Option, sym, refl, ap, ◌∙◌, subst, inl, inr, ⊎_elim, append_assoc, append-nil, arith, get_or-set_other, get_or-set_same}
 use lib.Seq.{get_or-append_seam}
 use Rattle.std.proofs.lemmas.List.{length_push, get_or_append_left, get_or-replicate}
 use Rattle.std.proofs.lemmas.Bool.{true≢false, eqb-true, eqb-false, eq-eqb, ne_eqb, cases_Bool, cases_eq, cases_lt, cond-true, cond-false}
-use Rattle.recording.specs.declared.operation.Kind.TheVariants.{Write, Read}
+use Rattle.recording.specs.declared.operation.Kind.TheVariants.{Write}
 use Rattle.recording.specs.declared.operation.Operation.{Operation}
 use Rattle.recording.specs.declared.stations.Entry.{Entry}
-use Rattle.recording.specs.Operations.{write_of, at, IsWrite, Gives, Twins}
+use Rattle.recording.specs.Operations.{write_of, at, IsWrite}
 use Rattle.recording.specs.Lawful.{InRange, NonZero, Apart}
 use Rattle.recording.specs.Stations.{entry_at, tally, last_from, entry_of, same, Kept, LastOf}
-use Rattle.recording.specs.Telling.{Recorded, Allowed}
+use Rattle.recording.specs.Telling.{Allowed}
 use Rattle.recording.proofs.Operations.{not_written}
 
 module _ (ops : List Operation) (x : Operation) where

@@ -1,19 +1,15 @@
 -- A list of operations, by its places and by its tests.
-use Rattle.std.proofs.Common.{◌≡◌, ℕ, zero, suc, ◌<◌, ◌≤◌, Bool, true, false, ◌&&◌, eqb, ◌⊎◌, List, [], ◌∷◌, length, take, is_some, Some, None, Option, sym, refl, ap, ◌∙◌, inl, inr, ⊎_elim, arith, length-take-le, get_or-take}
+use Rattle.std.proofs.Common.{◌≡◌, ℕ, zero, suc, true, false, ◌&&◌, eqb, List, [], ◌∷◌, is_some, Some, None, Option, sym, refl, ap, ◌∙◌, ⊎_elim, arith}
 use Rattle.std.proofs.lemmas.Bool.{true≢false, eqb-true, eq-eqb, and_parts, and_from, or_from, or_left, or_right, cases_Bool}
 use Rattle.recording.specs.declared.operation.Kind.{Kind}
 use Rattle.recording.specs.declared.operation.Kind.TheVariants.{Write, Read}
 use Rattle.recording.specs.declared.operation.Operation.{Operation}
 use Rattle.recording.specs.Lookups.{Giver}
-use Rattle.recording.specs.Operations.{write_of, is_write, at, IsWrite, Gives, gives, written}
+use Rattle.recording.specs.Operations.{is_write, Gives, gives, written}
 
 pub write_is : (k : Kind) → is_write k ≡ true → k ≡ Write
 write_is Write e = refl
 write_is Read e = absurd (true≢false (sym e))
-
--- a front of the list has the same operations
-pub at_front : (n : ℕ) (xs : List Operation) (i : ℕ) → i < n → at (take n xs) i ≡ at xs i
-at_front n xs i h = get_or-take n xs i (write_of 0 0 0) h
 
 pub gives_parts : (x : Operation) (reg v : ℕ) → gives x reg v ≡ true → (x.kind ≡ Write) × (x.register ≡ reg) × (x.value ≡ v)
 gives_parts x reg v e =

@@ -1,5 +1,5 @@
 -- The grounds on which a recording refuses: their numbers, and which of several is told.
-use Rattle.std.specs.Prelude.{ℕ, Bool, true, false, cond, List, [], ◌∷◌, Some, None, Option}
+use Rattle.std.specs.Prelude.{ℕ, Bool, cond, List, [], ◌∷◌, Some, None, Option}
 use Rattle.recording.specs.declared.refusal.Refusal.{Refusal}
 use Rattle.recording.specs.declared.refusal.Refusal.TheVariants.{StationCount, NoSuchStation, NoSuchRegister, ValueOutOfRange, Full, ValueRepeated, NotARead}
 

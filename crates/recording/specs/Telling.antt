@@ -1,7 +1,6 @@
 -- A recording as it is told: what each call answers, and the recording after it.
-use Rattle.std.specs.Prelude.{◌≡◌, ℕ, ◌<◌, ◌≤◌, Bool, true, false, ◌&&◌, ◌||◌, ltb, List, [], ◌∷◌, ◌++◌, length, take, Some, None, Ok, Err, Option, Result, ◌==◌, nat_le, nat_lt}
-use Rattle.recording.specs.declared.operation.Kind.{Kind}
-use Rattle.recording.specs.declared.operation.Kind.TheVariants.{Write, Read}
+use Rattle.std.specs.Prelude.{◌≡◌, ℕ, ◌<◌, ◌≤◌, false, ◌||◌, List, [], ◌∷◌, ◌++◌, length, take, Some, None, Ok, Err, Option, Result, ◌==◌, nat_le, nat_lt}
+use Rattle.recording.specs.declared.operation.Kind.TheVariants.{Write}
 use Rattle.recording.specs.declared.operation.Operation.{Operation}
 use Rattle.recording.specs.declared.refusal.Refusal.{Refusal}
 use Rattle.recording.specs.declared.refusal.Refusal.TheVariants.{StationCount, NoSuchStation, NoSuchRegister, ValueOutOfRange, Full, ValueRepeated}
@@ -42,7 +41,7 @@ start_ground stations = first (StationCount when (stations == 0 || nat_lt 16 sta
 abbrev pub write_ground : Recorded → ℕ → ℕ → ℕ → Option Refusal
 write_ground before station reg v = first (
     NoSuchStation when nat_le before.stations station
-    ∷ NoSuchRegister when ltb 63 reg
+    ∷ NoSuchRegister when nat_lt 63 reg
     ∷ ValueOutOfRange when (v == 0 || nat_lt 524287 v)
     ∷ Full when nat_le 256 (length before.operations)
     ∷ ValueRepeated when written before.operations reg v
@@ -52,8 +51,8 @@ write_ground before station reg v = first (
 abbrev pub read_ground : Recorded → ℕ → ℕ → ℕ → Option Refusal
 read_ground before station reg v = first (
     NoSuchStation when nat_le before.stations station
-    ∷ NoSuchRegister when ltb 63 reg
-    ∷ ValueOutOfRange when ltb 524287 v
+    ∷ NoSuchRegister when nat_lt 63 reg
+    ∷ ValueOutOfRange when nat_lt 524287 v
     ∷ Full when nat_le 256 (length before.operations)
     ∷ [])
 
@@ -64,5 +63,5 @@ Started before stations (Err e) after = (start_ground stations ≡ Some e) × (a
 
 -- what telling an operation answers: its number, and it is the last one now; or the ground, and nothing has changed
 abbrev pub Told : Option Refusal → Operation → Recorded → Result ℕ Refusal → Recorded → Type 0
-Told ground op before (Ok n) after = (ground ≡ None) × (n ≡ length before.operations) × (after ≡ with before op)
-Told ground op before (Err e) after = (ground ≡ Some e) × (after ≡ before)
+Told why op before (Ok n) after = (why ≡ None) × (n ≡ length before.operations) × (after ≡ with before op)
+Told why op before (Err e) after = (why ≡ Some e) × (after ≡ before)

@@ -1,4 +1,6 @@
 //! Recordings of reads and writes: how one is told, and what can be looked up in it.
+#![tactic(auto)]
+
 pub mod operation;
 pub mod recording;
 pub mod refusal;

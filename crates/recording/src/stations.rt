@@ -30,8 +30,8 @@ impl Stations {
 
     // Operation `number` is the station's last one now.
     pub(crate) fn note(&mut self, station: usize, number: usize)
-        requires station_bound { station < 16 }
-        requires station_bound_2 { (entry_at self.old.entries station).count < 256 }
+        requires station { station < 16 }
+        requires room { (entry_at self.old.entries station).count < 256 }
         ensures sixteen { length self.old.entries ≡ 16 }
         ensures noted { self.new.entries ≡ set self.old.entries station (record { count = (entry_at self.old.entries station).count + 1; last = Some number }) }
     {

@@ -25,8 +25,8 @@ impl Recording {
 
     // A recording with no operations.
     fn with_stations(stations: u8) -> Recording
-        requires le_stations { 1 ≤ stations }
-        requires stations_bound { stations ≤ 16 }
+        requires some { 1 ≤ stations }
+        requires most { stations ≤ 16 }
         ensures { recorded result ≡ empty stations }
     {
         Recording {
