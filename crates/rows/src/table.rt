@@ -41,10 +41,10 @@ impl Table<'_> {
 /// Puts `row` in the place of row `a`. Where `a` is above 255, or the words are not 1,024, nothing changes.
 pub fn put_row(table: &mut [u64], a: usize, row: Row)
     ensures here { length table.old ≡ 1024 → a < 256 → (b : ℕ) → related table.new a b ≡ member row b }
-    ensures others { (c b : ℕ) → (c ≢ a) → related table.new c b ≡ related table.old c b }
+    ensures others { (c b : ℕ) → c ≢ a → related table.new c b ≡ related table.old c b }
     ensures long { length table.new ≡ length table.old }
     ensures above { 256 ≤ a → table.new ≡ table.old }
-    ensures unfit { (length table.old ≢ 1024) → table.new ≡ table.old }
+    ensures unfit { length table.old ≢ 1024 → table.new ≡ table.old }
 {
     if table.len() == 1024 && a < 256 {
         table[4 * a] = row.words[0];

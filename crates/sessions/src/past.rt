@@ -15,7 +15,7 @@ use visibility::{Outline, grow};
 /// left as they are.
 pub fn put_happened(recording: &Recording, seen: Table<'_>, last: usize, table: &mut [u64])
     ensures happened { Grounded (recorded recording.now).operations (related seen.entry.words.now) last table.old → HappensBefore (recorded recording.now).operations (related seen.entry.words.now) last (related table.new) }
-    ensures unfit { (length table.old ≢ 1024) → table.new ≡ table.old }
+    ensures unfit { length table.old ≢ 1024 → table.new ≡ table.old }
 {
     if table.len() == 1024 {
         put_past(recording, seen, last, table);

@@ -1,14 +1,14 @@
 -- A recording is explained, with an order for each read or with one for all, exactly when there is no violation.
-use Rattle.std.proofs.Common.{◌≡◌, ℕ, ◌<◌, Bool, true, false, ◌≢◌, ◌⊎◌, ◌↔◌, List, [], ◌∷◌, length, sym, refl, ◌∙◌, subst, inl, inr, ⊎_elim, arith}
+use Rattle.std.proofs.Common.{◌≡◌, ℕ, ◌≢◌, ◌⊎◌, List, length, sym, refl, ◌∙◌, subst, inl, inr, ⊎_elim, arith}
 use native.Mathlib.Decide.{ℕ_discrete}
 use Rattle.recording.specs.declared.operation.Operation.{Operation}
-use Rattle.recording.specs.Operations.{at, IsWrite, IsRead, Gives, SourceOf, Twins}
-use Rattle.relation.specs.Steps.{Holds, Once, Precedes, Lists, Steps, one, more, Acyclic}
+use Rattle.recording.specs.Operations.{at, IsWrite, IsRead, SourceOf}
+use Rattle.relation.specs.Steps.{Holds, Once, Precedes, Steps, one, more, Acyclic}
 use Rattle.relation.proofs.Extending.{dec_or, steps_join, steps_wider, steps_precede, precedes_asym, precedes_irrefl, Extended, extend}
 use Rattle.visibility.specs.Growth.{Rel, Inside}
 use Rattle.visibility.specs.Visible.{IsLeast}
-use Rattle.violations.specs.Explained.{Demand, Valid, In, SeesOf, ReadsInitial, ReadsLast, Reads, Writes, Ordering, Visibility, LawfulFor, OwnExplains, OwnExplained, Lawful, SharedExplains, SharedExplained}
-use Rattle.violations.specs.Violations.{ThinAir, InitialRead, BadInitRead, Rival, BadRead, Conflict, Arbitration, OwnClean, SharedClean}
+use Rattle.violations.specs.Explained.{Demand, Valid, In, SeesOf, ReadsLast, Reads, Writes, Ordering, Visibility, LawfulFor, OwnExplains, SharedExplains}
+use Rattle.violations.specs.Violations.{ThinAir, InitialRead, Rival, BadRead, Conflict, Arbitration, OwnClean, SharedClean}
 use Rattle.violations.proofs.Decisions.{find_source, dec_writes, dec_rival, dec_write}
 
 -- ── An explained recording has no violation ──

@@ -1,10 +1,10 @@
 -- Each fact on a recording is decided.
-use Rattle.std.proofs.Common.{◌≡◌, ℕ, ◌<◌, true, ◌≢◌, ◌⊎◌, List, length, sym, refl, ap, arith}
+use Rattle.std.proofs.Common.{◌≡◌, ℕ, ◌<◌, ◌≢◌, List, length, refl, ap, arith}
 use native.Mathlib.Decide.{ℕ_discrete, dec_lt}
 use Rattle.recording.specs.declared.operation.Kind.{Kind}
 use Rattle.recording.specs.declared.operation.Kind.TheVariants.{Write, Read}
 use Rattle.recording.specs.declared.operation.Operation.{Operation}
-use Rattle.recording.specs.Operations.{at, is_write, IsWrite, IsRead, Gives, SourceOf}
+use Rattle.recording.specs.Operations.{at, IsWrite, IsRead, SourceOf}
 use Rattle.relation.proofs.Extending.{dec_true, dec_below}
 use Rattle.visibility.specs.Growth.{Rel}
 use Rattle.violations.specs.Explained.{In, SeesOf, Writes}

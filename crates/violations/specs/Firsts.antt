@@ -1,5 +1,5 @@
 -- The first of what is looked for.
-use Rattle.std.specs.Prelude.{ℕ, ◌<◌, List, Some, None, Option}
+use Rattle.std.specs.Prelude.{ℕ, ◌<◌, Some, None, Option}
 use Rattle.violations.specs.declared.evidence.Pair.{Pair}
 use Rattle.violations.specs.declared.evidence.Rivals.{Rivals}
 

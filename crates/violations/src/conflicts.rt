@@ -11,7 +11,7 @@ use rows::{Table, clear, put_row};
 /// Makes a table of 1,024 words hold (x, w) for each conflict, and nothing else. Words of another length are left as they are.
 pub fn put_conflicts(recording: &Recording, seen: Table<'_>, table: &mut [u64])
     ensures conflicts { length table.old ≡ 1024 → Tabled (recorded recording.now).operations (related seen.entry.words.now) (length (recorded recording.now).operations) 0 table.new }
-    ensures unfit { (length table.old ≢ 1024) → table.new ≡ table.old }
+    ensures unfit { length table.old ≢ 1024 → table.new ≡ table.old }
 {
     if table.len() == 1024 {
         clear(table);

@@ -14,7 +14,7 @@ use rows::{Table, put_row};
 /// what the table held and all that is demanded under it. Words of another length are left as they are.
 pub fn grow<R: Rule>(rule: &R, outline: &Outline, table: &mut [u64])
     ensures least { length table.old ≡ 1024 → Least (Asked (R.demands rule.now) (shapes_of outline.now)) (related table.old) (related table.new) }
-    ensures unfit { (length table.old ≢ 1024) → table.new ≡ table.old }
+    ensures unfit { length table.old ≢ 1024 → table.new ≡ table.old }
 {
     if table.len() == 1024 {
         while round(rule, outline, table) {}
@@ -24,7 +24,7 @@ pub fn grow<R: Rule>(rule: &R, outline: &Outline, table: &mut [u64])
 /// One round of the growth, for whoever counts them: says whether anything was new. Words of another length are left as they are.
 pub fn sweep<R: Rule>(rule: &R, outline: &Outline, table: &mut [u64]) -> bool
     ensures grown { length table.old ≡ 1024 → Grown (Asked (R.demands rule.now) (shapes_of outline.now)) 0 (length (shapes_of outline.now)) table.old table.new result }
-    ensures unfit { (length table.old ≢ 1024) → (result ≡ false) × (table.new ≡ table.old) }
+    ensures unfit { length table.old ≢ 1024 → (result ≡ false) × (table.new ≡ table.old) }
 {
     if table.len() == 1024 {
         return round(rule, outline, table);

@@ -1,7 +1,6 @@
 //! The late rule: what came long enough before at one station is seen.
 ghost use Rattle.std.specs.Prelude.{◌≤◌};
 ghost use Rattle.visibility.specs.Visible.{LateDemand};
-ghost use Rattle.std.proofs.Common.{rules, arith};
 
 use crate::outline::Outline;
 use crate::rule::Rule;
@@ -30,7 +29,7 @@ impl Rule for Late {
 
     ghost known = { λ _. 3 };
 
-    ghost grows = { first_of (Prim.search rules, Prim.grind (arith, Self.row.coded.inj)) };
+    ghost grows = { λ _ _ _ _ _ _ _ d. d };
 
     fn asks(&self, outline: &Outline, seen: Table<'_>, a: usize, b: usize) -> bool {
         self.demanded(outline, seen, a).contains(b)

@@ -14,7 +14,7 @@ use rows::{Table, clear, put_row};
 /// Words of another length are left as they are.
 pub fn least_visibility<R: Rule>(recording: &Recording, rule: &R, table: &mut [u64])
     ensures least { length table.old ≡ 1024 → IsLeast (R.demands rule.now) (recorded recording.now).operations (related table.new) }
-    ensures unfit { (length table.old ≢ 1024) → table.new ≡ table.old }
+    ensures unfit { length table.old ≢ 1024 → table.new ≡ table.old }
 {
     if table.len() == 1024 {
         put_sources(recording, table);

@@ -3,7 +3,7 @@ ghost use Rattle.std.specs.Prelude.{◌≡◌, ℕ, ◌<◌, true, length, Decid
 ghost use Rattle.rows.specs.Members.{member, related};
 ghost use Rattle.visibility.specs.Shapes.{shapes_of};
 ghost use Rattle.sessions.specs.Deriving.{Derives, HappeningDemand};
-ghost use Rattle.std.proofs.Common.{rules, arith};
+ghost use Rattle.std.proofs.Common.{rules};
 
 use crate::happening::Happening;
 use recording::Kind;
@@ -19,7 +19,7 @@ impl Rule for Happening {
 
     ghost known = { λ _. 0 };
 
-    ghost grows = { first_of (Prim.search rules, Prim.grind (arith, Self.row.coded.inj)) };
+    ghost grows = { Prim.search rules };
 
     fn asks(&self, outline: &Outline, seen: Table<'_>, a: usize, b: usize) -> bool {
         self.demanded(outline, seen, a).contains(b)

@@ -22,7 +22,7 @@ loop-number-preserved c =
 pub invariant_of-result : goal.invariant_of-result
 invariant_of-result c =
     let few = length-take-le c.args.recording.now.count c.args.recording.now.operations (omega arith) in
-    (omega arith, (c.loop-number.invariant.1, tt))
+    record { few = omega arith; room = c.loop-number.invariant.1 }
 
 pub returns : goal.returns
 returns c =

@@ -6,7 +6,12 @@ use Rattle.visibility.proofs.terms.spelling.finished.Goals as goal
 pub invariant_of-result : goal.invariant_of-result
 invariant_of-result c =
     let d = c.args.draft.now in
-    (omega arith, (length-set d.lengths d.count d.current ∙ d.eight, (d.wide, (fit_more d.lengths d.count d.current (omega (arith, d.eight)) d.short d.fit, tt))))
+    record {
+      few = omega arith;
+      eight = length-set d.lengths d.count d.current ∙ d.eight;
+      wide = d.wide;
+      fit = fit_more d.lengths d.count d.current (omega (arith, d.eight)) d.short d.fit;
+    }
 
 pub returns-then-draft-gt0 : goal.returns-then-draft-gt0
 returns-then-draft-gt0 c =
