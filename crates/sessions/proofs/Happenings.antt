@@ -1,5 +1,5 @@
 -- What grows from visibility among what an operation sees is what has happened before what.
-use Rattle.std.proofs.Common.{◌≡◌, ℕ, ◌<◌, ◌≤◌, Bool, true, ◌&&◌, ltb, ◌⊎◌, List, map, length, sym, refl, ap, ◌∙◌, subst, inl, inr, ⊎_elim, arith}
+use Rattle.std.proofs.Common.{◌≡◌, ℕ, ◌<◌, ◌≤◌, true, ◌&&◌, ltb, List, map, length, sym, ap, ◌∙◌, subst, inl, inr, ⊎_elim, arith}
 use Rattle.std.proofs.lemmas.List.{length-map, get_or-map}
 use Rattle.std.proofs.lemmas.Bool.{and_parts, and_from, lt-ltb, ltb-true}
 use Rattle.recording.specs.declared.operation.Operation.{Operation}
@@ -12,7 +12,7 @@ use Rattle.visibility.specs.Visible.{Asked}
 use Rattle.violations.specs.Explained.{In}
 use Rattle.violations.specs.Violations.{Rival}
 use Rattle.sessions.specs.Deriving.{Derives, HappeningDemand, Readers, PastTable}
-use Rattle.sessions.specs.Happening.{Happens, HappensBefore}
+use Rattle.sessions.specs.Happening.{HappensBefore}
 use Rattle.sessions.specs.Listings.{Past, StationRead}
 
 demand_wider : (R : Rel) (f : List Shape) (u v : Rel) → Inside u v → (a b : ℕ) → HappeningDemand R f u a b → HappeningDemand R f v a b

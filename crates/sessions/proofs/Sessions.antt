@@ -1,20 +1,20 @@
 -- A recording is explained by sessions exactly when there is no violation.
-use Rattle.std.proofs.Common.{◌≡◌, ℕ, zero, suc, ◌+◌, ◌<◌, ◌≤◌, Bool, true, false, not, ◌&&◌, ◌||◌, eqb, ltb, ◌≢◌, ◌⊎◌, List, [], ◌∷◌, map, length, sym, refl, ap, ◌∙◌, subst, inl, inr, ⊎_elim, arith}
+use Rattle.std.proofs.Common.{◌≡◌, ℕ, zero, suc, ◌+◌, ◌<◌, ◌≤◌, Bool, true, false, not, ◌&&◌, ◌||◌, ltb, ◌≢◌, ◌⊎◌, List, [], ◌∷◌, map, length, sym, refl, ap, ◌∙◌, subst, inl, inr, ⊎_elim, arith}
 use mathlib.Core.Bool.{decide, decide_iff}
 use native.Mathlib.Decide.{ℕ_discrete, dec_lt}
 use Rattle.std.proofs.lemmas.List.{length-map, get_or-map}
-use Rattle.std.proofs.lemmas.Bool.{and_parts, and_from, or_cases, or_left, or_right, not-true, both_ways, cases_order, lt-ltb, ltb-true, eq-eqb, eqb-true}
+use Rattle.std.proofs.lemmas.Bool.{and_parts, and_from, or_cases, or_left, or_right, not-true, both_ways, cases_order, lt-ltb, eq-eqb}
 use Rattle.recording.specs.declared.operation.Operation.{Operation}
-use Rattle.recording.specs.Operations.{at, write_of, IsWrite, IsRead, SourceOf}
-use Rattle.relation.specs.Steps.{Holds, Once, Precedes, Lists, Steps, one, more, Acyclic}
-use Rattle.relation.proofs.Extending.{dec_true, dec_or, dec_below, precedes_left, precedes_right, precedes_trans, precedes_asym, precedes_irrefl, Extended, extend}
+use Rattle.recording.specs.Operations.{at, write_of, IsRead, SourceOf}
+use Rattle.relation.specs.Steps.{Holds, Precedes, Lists, Steps, one, more, Acyclic}
+use Rattle.relation.proofs.Extending.{dec_true, dec_or, dec_below, precedes_left, precedes_right, precedes_trans, precedes_asym, precedes_irrefl, extend}
 use Rattle.visibility.proofs.Stations.{before_below, before_first}
 use Rattle.visibility.specs.Growth.{Rel, Inside}
 use Rattle.visibility.specs.Shapes.{shape, shape_at, no_shape, before}
 use Rattle.visibility.specs.Visible.{Asked, CausalDemand, IsLeast}
-use Rattle.violations.specs.Explained.{Valid, In, SeesOf, ReadsInitial, ReadsLast, Reads, Writes}
-use Rattle.violations.specs.Violations.{ThinAir, BadInitRead, Rival, BadRead, OwnClean}
-use Rattle.violations.proofs.Deciding.{reads_source, reads_order, reads_air, reads_init, source_nonzero}
+use Rattle.violations.specs.Explained.{Valid, In, Reads, Writes}
+use Rattle.violations.specs.Violations.{Rival, BadRead, OwnClean}
+use Rattle.violations.proofs.Deciding.{reads_source, reads_order, reads_air, reads_init}
 use Rattle.violations.proofs.Decisions.{dec_and, dec_not, dec_iff, dec_read, find_source}
 use Rattle.sessions.specs.Listings.{Transitive, CausalOrder, Past, StationRead, Listing, SessionExplains}
 use Rattle.sessions.specs.Happening.{Last, Happens, HappensBefore, HbInitRead, CyclicHb}
