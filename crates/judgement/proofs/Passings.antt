@@ -11,7 +11,7 @@ use Rattle.sessions.specs.Happening.{Last, HappensBefore, HbInitRead, CyclicHb}
 use Rattle.judgement.specs.declared.stale.StationFinding.TheVariants.{Init, Cyclic, Clean}
 use Rattle.judgement.specs.declared.stale.StationRivals.{StationRivals}
 use Rattle.judgement.specs.Passing.{FoundAt, CyclicSoFar, Passed, earliest}
-use Rattle.judgement.specs.Verdicts.{NoInitAt, NoCyclicAt, InitAt, CyclicAt}
+use Rattle.judgement.specs.Verdicts.{NoInitAt, NoCyclicAt, InitAt}
 
 module _ (ops : List Operation) (V : Rel) where
   -- ── What has happened before what is one relation ──

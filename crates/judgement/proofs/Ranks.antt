@@ -1,5 +1,5 @@
 -- Violations in the order of their numbers, and what shows one.
-use Rattle.std.proofs.Common.{ℕ, ◌<◌, List, arith}
+use Rattle.std.proofs.Common.{ℕ, ◌<◌, List}
 use Rattle.recording.specs.declared.operation.Operation.{Operation}
 use Rattle.visibility.specs.Growth.{Rel}
 use Rattle.judgement.specs.declared.verdict.Violation.{Violation}

@@ -1,5 +1,5 @@
 -- The verdict of the session judgement.
-use Rattle.std.proofs.Common.{◌≡◌, ℕ, ◌<◌, ◌≤◌, true, false, List, [], length, get_or, take, is_some, Some, None, Option, sym, refl, ap, ◌∙◌, subst, true≢false, arith}
+use Rattle.std.proofs.Common.{◌≡◌, ℕ, ◌<◌, true, false, List, [], length, get_or, take, is_some, Some, None, Option, sym, refl, ap, ◌∙◌, subst, true≢false, arith}
 use Rattle.std.proofs.lemmas.List.{length-take-le}
 use Rattle.recording.specs.declared.operation.Operation.{Operation}
 use Rattle.recording.specs.Stations.{LastOf}

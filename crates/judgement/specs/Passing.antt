@@ -1,5 +1,5 @@
 -- What is found of the violations of stations, station after station.
-use Rattle.std.specs.Prelude.{◌≡◌, ℕ, ◌+◌, ◌<◌, List, Some, None, Ok, Err, Option, Result}
+use Rattle.std.specs.Prelude.{ℕ, ◌<◌, List, Some, None, Ok, Err, Option, Result}
 use Rattle.recording.specs.declared.operation.Operation.{Operation}
 use Rattle.recording.specs.Operations.{at}
 use Rattle.visibility.specs.Growth.{Rel}
