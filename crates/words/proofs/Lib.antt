@@ -1,4 +1,3 @@
-pub mod Reading
 pub mod Meaning
 pub mod Spelling
 pub mod RoundTrip

@@ -1,5 +1,5 @@
 -- The words of a recording load back as that recording.
-use Rattle.std.proofs.Common.{◌≡◌, ℕ, zero, suc, ◌+◌, ◌*◌, ◌/◌, ◌%◌, ◌^◌, ◌<◌, ◌≤◌, Bool, true, false, cond, not, ◌&&◌, ◌||◌, eqb, ltb, leb, ◌⊎◌, List, [], ◌∷◌, ◌++◌, map, length, get_or, take, drop, Some, None, Ok, Err, Option, Result, sym, refl, ap, ◌∙◌, subst, subst₂, inl, inr, append_assoc, append-nil, arith, length-append, length-take-le}
+use Rattle.std.proofs.Common.{◌≡◌, ℕ, ◌+◌, ◌^◌, ◌<◌, ◌≤◌, false, cond, not, ◌&&◌, ◌||◌, eqb, ltb, List, [], ◌∷◌, ◌++◌, map, length, take, drop, Some, None, Ok, Result, sym, refl, ap, ◌∙◌, subst, subst₂, inl, inr, append_assoc, append-nil, arith, length-append, length-take-le}
 use lib.ListN.{length-map}
 use lib.Seq.{get_or-append_seam}
 use Rattle.std.proofs.lemmas.List.{length_push, get_or_append_left, take_at}
@@ -10,27 +10,25 @@ use Rattle.recording.specs.declared.operation.Kind.TheVariants as kind
 use Rattle.recording.specs.declared.operation.Operation.{Operation}
 use Rattle.recording.specs.declared.recording.Recording.{Recording}
 use Rattle.recording.specs.Lawful.{InRange, NonZero, Apart}
-use Rattle.recording.specs.Operations.{write_of, read_of, at, IsWrite, Gives, written}
+use Rattle.recording.specs.Operations.{write_of, read_of, at, written}
 use Rattle.recording.specs.Refusals.{first, ◌when◌}
-use Rattle.recording.specs.Telling.{Recorded, recorded, empty, with, start_ground, write_ground, read_ground}
+use Rattle.recording.specs.Telling.{Recorded, recorded, with, start_ground}
 use Rattle.recording.proofs.Operations.{written_false}
-use Rattle.words.specs.declared.fault.Fault.{Fault}
 use Rattle.words.specs.declared.fault.Fault.TheVariants.{NotAnOpening, OutOfForm, NoteTooLong, WrongCount}
-use Rattle.words.specs.declared.fault.Misread.{Misread}
 use Rattle.words.specs.declared.kind.WordKind.{WordKind}
 use Rattle.words.specs.declared.kind.WordKind.TheVariants.{Note, Write, Read, Opening, Closing}
 use Rattle.words.specs.declared.loading.LoadRefusal.{LoadRefusal}
-use Rattle.words.specs.declared.reader.Phase.TheVariants.{Before, Between, After}
-use Rattle.words.specs.Layout.{bits, kind_of, zero_bits, is_opening, is_note, is_closing, Said, opening, write, read, note, closing, says}
-use Rattle.words.specs.Reading.{Reading, at_start, ground_at, ground, said_at, pass}
-use Rattle.words.specs.Loading.{Heard, Means, tell_ground, told, Tells, LoadsFrom, Loads}
-use Rattle.words.specs.Saving.{opening_word, closing_word, kind_bits, operation_word, words_of, LoadsBack}
+use Rattle.words.specs.declared.reader.Phase.TheVariants.{Before, Between}
+use Rattle.words.specs.Layout.{bits, kind_of, zero_bits, is_opening, is_note, is_closing, Said, opening, write, read, closing, says}
+use Rattle.words.specs.Reading.{Reading, at_start, ground_at, ground_of, said_at, pass}
+use Rattle.words.specs.Loading.{tell_ground, told, Tells, LoadsFrom}
+use Rattle.words.specs.Saving.{opening_word, closing_word, operation_word, words_of, LoadsBack}
 
 -- ── Going on with a load ──
 
 -- an accepted record is told, and the load goes on behind it
 step : (r : Reading) (before : Recorded) (s : Said) (answer : Result ℕ LoadRefusal) (after : Recorded)
-    → ground r ≡ None → said_at r.rest ≡ Some s → tell_ground before s ≡ None
+    → ground_of r ≡ None → said_at r.rest ≡ Some s → tell_ground before s ≡ None
     → LoadsFrom r before answer after → LoadsFrom (pass r s) (told before s) answer after
 step r before s answer after g said ok ([], None, means, told') = absurd (let z : ◌≡◌ {A = ℕ} 0 1 = cc (ap said_at means.1) in omega arith)
 step r before s answer after g said ok ([], Some e, means, told') = absurd (let z : ◌≡◌ {A = ℕ} 0 1 = cc in omega arith)
@@ -45,7 +43,7 @@ step r before s answer after g said ok (h ∷ hs, end, means, told') = go told'
 
 -- the load ends with the words
 ends : (r : Reading) (before : Recorded) (answer : Result ℕ LoadRefusal) (after : Recorded)
-    → ground r ≡ None → r.rest ≡ [] → LoadsFrom r before answer after → (answer ≡ Ok (length before.operations)) × (after ≡ before)
+    → ground_of r ≡ None → r.rest ≡ [] → LoadsFrom r before answer after → (answer ≡ Ok (length before.operations)) × (after ≡ before)
 ends r before answer after g e ([], None, means, told') = told'
 ends r before answer after g e ([], Some f, means, told') = absurd (let z : ◌≡◌ {A = ℕ} 0 1 = cc means.0 in omega arith)
 ends r before answer after g e (h ∷ hs, end, means, told') = absurd (let z : ◌≡◌ {A = ℕ} 0 1 = cc (means.1, ap said_at e) in omega arith)

@@ -1,10 +1,9 @@
 -- What a run of calls settles follows from call to call, and is one recording.
-use Rattle.std.proofs.Common.{◌≡◌, ℕ, ◌<◌, ◌≤◌, ◌⊎◌, List, [], ◌∷◌, ◌++◌, map, length, Some, None, Ok, Err, Option, Result, sym, refl, ap, ◌∙◌, subst, subst₂, inl, inr, append_assoc, append-nil, arith}
+use Rattle.std.proofs.Common.{◌≡◌, ℕ, ◌⊎◌, List, [], ◌∷◌, ◌++◌, map, Some, None, Ok, Err, Option, Result, sym, refl, ap, ◌∙◌, subst, inl, inr, append_assoc, append-nil, arith}
 use Rattle.recording.specs.declared.operation.Operation.{Operation}
 use Rattle.recording.specs.declared.refusal.Refusal.{Refusal}
 use Rattle.recording.specs.Operations.{write_of, read_of}
-use Rattle.recording.specs.Telling.{Recorded, empty, with, start_ground, write_ground, read_ground}
-use Rattle.recording.specs.Telling as telling
+use Rattle.recording.specs.Telling.{Recorded, empty, with}
 use Rattle.words.specs.declared.calls.Answer.{Answer}
 use Rattle.words.specs.declared.calls.Call.{Call}
 use Rattle.words.specs.declared.calls.Call.TheVariants.{Start, Write, Read, Load}
@@ -12,7 +11,7 @@ use Rattle.words.specs.declared.fault.Misread.{Misread}
 use Rattle.words.specs.declared.loading.LoadRefusal.{LoadRefusal}
 use Rattle.words.specs.Calls.{Answers}
 use Rattle.words.specs.Layout.{Said, opening, write, read, note, closing}
-use Rattle.words.specs.Loading.{Heard, Means, tell_ground, told, Tells, Loads}
+use Rattle.words.specs.Loading.{Heard, Means, tell_ground, told, Tells}
 use Rattle.words.specs.Reading.{Reading, at_start, said_at, pass}
 use Rattle.words.specs.Runs.{Event, started, took, Since, event_of, Tellings, Accepts, Runs, Settles}
 

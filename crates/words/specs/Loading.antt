@@ -9,7 +9,7 @@ use Rattle.words.specs.declared.loading.LoadRefusal.{LoadRefusal}
 use Rattle.words.specs.declared.loading.LoadRefusal.TheVariants.{TooLong, Reader, Recording}
 use Rattle.words.specs.Faults as faults
 use Rattle.words.specs.Layout.{Said, opening, write, read, note, closing}
-use Rattle.words.specs.Reading.{Reading, at_start, ground, said_at, pass}
+use Rattle.words.specs.Reading.{Reading, at_start, ground_of, said_at, pass}
 
 -- what a record says, and the place of its first word
 pub record Heard : Type 0 where
@@ -18,9 +18,9 @@ pub record Heard : Type 0 where
 
 -- what the words from a reading on mean: which records, at which places, and at which fault they end, if at one
 abbrev pub Means : Reading → List Heard → Option Misread → Type 0
-Means r [] None = (ground r ≡ None) × (r.rest ≡ [])
-Means r [] (Some e) = (ground r ≡ Some e.fault) × (e.place ≡ r.place)
-Means r (h ∷ hs) end = (ground r ≡ None) × (said_at r.rest ≡ Some h.said) × (h.place ≡ r.place) × Means (pass r h.said) hs end
+Means r [] None = (ground_of r ≡ None) × (r.rest ≡ [])
+Means r [] (Some e) = (ground_of r ≡ Some e.fault) × (e.place ≡ r.place)
+Means r (h ∷ hs) end = (ground_of r ≡ None) × (said_at r.rest ≡ Some h.said) × (h.place ≡ r.place) × Means (pass r h.said) hs end
 
 -- why a recording refuses what a record says
 abbrev pub tell_ground : Recorded → Said → Option Refusal

@@ -39,8 +39,8 @@ ground_at Between n (w ∷ more) = first (
     ∷ [])
 ground_at After n (w ∷ more) = Some AfterClosing
 
-abbrev pub ground : Reading → Option Fault
-ground r = ground_at r.phase r.operations r.rest
+abbrev pub ground_of : Reading → Option Fault
+ground_of r = ground_at r.phase r.operations r.rest
 
 -- what the next record says, if a word is left
 abbrev pub said_at : List ℕ → Option Said
@@ -85,9 +85,9 @@ heard (variant.Closing count) = closing count
 
 -- what a reader answers: the next record with its place, and it goes past it; that nothing is left; or the fault and its place. Else it stays put
 abbrev pub Next : Reading → Result (Option Placed) Misread → Reading → Type 0
-Next before (Ok (Some p)) after = (ground before ≡ None) × (said_at before.rest ≡ Some (heard p.record)) × (p.place ≡ before.place) × (after ≡ pass before (heard p.record))
-Next before (Ok None) after = (ground before ≡ None) × (before.rest ≡ []) × (after ≡ before)
-Next before (Err e) after = (ground before ≡ Some e.fault) × (e.place ≡ before.place) × (after ≡ before)
+Next before (Ok (Some p)) after = (ground_of before ≡ None) × (said_at before.rest ≡ Some (heard p.record)) × (p.place ≡ before.place) × (after ≡ pass before (heard p.record))
+Next before (Ok None) after = (ground_of before ≡ None) × (before.rest ≡ []) × (after ≡ before)
+Next before (Err e) after = (ground_of before ≡ Some e.fault) × (e.place ≡ before.place) × (after ≡ before)
 
 -- what the words w and `more` are taken for
 abbrev pub RecordAnswer : Phase → ℕ → ℕ → List ℕ → Result Record Fault → Type 0

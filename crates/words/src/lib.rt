@@ -1,4 +1,6 @@
 //! Recordings as words of 32 bits: the reader, load and save, and whole runs of calls.
+#![tactic(auto)]
+
 pub mod calls;
 pub mod fault;
 mod field;

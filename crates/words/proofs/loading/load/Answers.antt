@@ -1,7 +1,7 @@
-use Rattle.std.proofs.Common.{◌≡◌, ◌<◌, length, Some, None, Ok, Err, sym, refl, ap, ◌∙◌, subst, subst₂, inl, inr, arith}
-use Rattle.recording.specs.Telling.{Recorded, recorded}
-use Rattle.words.specs.declared.loading.LoadRefusal.TheVariants.{Reader, Recording}
-use Rattle.words.specs.Reading.{Reading, reading, at_start, heard, Next}
+use Rattle.std.proofs.Common.{◌<◌, length, Ok, Err, sym, subst, subst₂, inr, arith}
+use Rattle.recording.specs.Telling.{recorded}
+use Rattle.words.specs.declared.loading.LoadRefusal.TheVariants.{Recording}
+use Rattle.words.specs.Reading.{reading, at_start, heard, Next}
 use Rattle.words.specs.Loading.{LoadsFrom}
 use Rattle.words.proofs.Meaning.{loads_more, loads_refused, loads_fault, loads_all, fewer, said_some}
 use Rattle.words.proofs.loading.load.Goals as goal

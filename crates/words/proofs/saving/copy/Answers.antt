@@ -1,15 +1,12 @@
-use Rattle.std.proofs.Common.{◌≡◌, ℕ, ◌-◌, length, take, Ok, Err, Result, sym, refl, ap, ◌∙◌, subst, arith}
-use Rattle.std.proofs.lemmas.Result.{err_from_is_err_and}
+use Rattle.std.proofs.Common.{◌≡◌, ℕ, ◌-◌, take, Err, ap, ◌∙◌, subst, arith}
 use Rattle.recording.specs.Telling.{recorded}
 use Rattle.words.specs.Loading.{Loads}
 use Rattle.words.specs.Saving.{words_of}
 use Rattle.words.proofs.RoundTrip.{recording_loads_back, saved_front}
 use Rattle.words.proofs.saving.copy.Goals as goal
 
-pub returns-in_err-count : goal.returns-in_err-count
-returns-in_err-count c =
-    let p = err_from_is_err_and c.from-residual.result c.from-residual.ensures.1 in
-    rw (p.1, p.2) (record { saved = c.in_err-count.ensures; equal = refl; loads_back = recording_loads_back c.args.recording.now })
+pub returns-in_err-count-clause-loads_back : goal.returns-in_err-count-clause-loads_back
+returns-in_err-count-clause-loads_back c = recording_loads_back c.args.recording.now
 
 pub unreachable-requires : goal.unreachable-requires
 unreachable-requires c =

@@ -1,6 +1,5 @@
-use Rattle.std.proofs.Common.{◌≡◌, ◌+◌, ◌*◌, ◌%◌, ◌^◌, ◌<◌, sym, ap, ◌∙◌, arith}
-use lib.Bits.{bit_or}
-use Rattle.words.specs.Saving.{kind_bits, operation_word}
+use Rattle.std.proofs.Common.{◌≡◌, ◌+◌, ◌*◌, ◌^◌, ◌<◌, sym, ap, ◌∙◌, arith}
+use Rattle.words.specs.Saving.{kind_bits}
 use Rattle.words.proofs.Spelling.{operation_spelled}
 use Rattle.words.proofs.saving.operation_word.Goals as goal
 use Rattle.words.proofs.saving.operation_word.Goals.{in-Write, in-Read}

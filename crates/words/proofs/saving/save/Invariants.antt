@@ -1,4 +1,4 @@
-use Rattle.std.proofs.Common.{◌≡◌, ◌+◌, ◌∷◌, map, length, take, drop}
+use Rattle.std.proofs.Common.{◌≡◌, ◌+◌, ◌∷◌, map, take, drop}
 use Rattle.recording.specs.Telling.{recorded}
 use Rattle.words.specs.Saving.{opening_word, operation_word}
 use Rattle.words.proofs.saving.save.Given as goal
