@@ -1,7 +1,6 @@
 //! Examples of recordings, of words, of runs, of orders, of visibilities and of verdicts, as tests.
 #![tactic(auto)]
 
-
 #[cfg(test)]
 mod judgements;
 #[cfg(test)]
