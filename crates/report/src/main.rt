@@ -1,4 +1,6 @@
 //! Reads a recording as text from standard input, tells it, and prints what came of it.
+#![tactic(auto)]
+
 mod line;
 mod texts;
 
