@@ -86,10 +86,10 @@ accepts_one s b a es since ok e = (es ++ event_of s, (b, since, inl (ok, refl)),
 refuses_one : (s : Said) (b a : Recorded) (es : List Event) (e : Refusal) → Since es b → tell_ground b s ≡ Some e → a ≡ b → Accepted es (s ∷ []) a
 refuses_one s b a es e since no' same = (es, (b, since, inr (e, no', refl)), subst (Since es) (sym same) since)
 
-abbrev tells_call : Call → List Event → Recorded → Type 0
-tells_call call es a = (said : List Said) × Tellings call said × Accepted es said a
+abbrev TellsCall : Call → List Event → Recorded → Type 0
+TellsCall call es a = (said : List Said) × Tellings call said × Accepted es said a
 
-accepts_call : (call : Call) (b : Recorded) (answer : Answer) (a : Recorded) (es : List Event) → Since es b → Answers b call answer a → tells_call call es a
+accepts_call : (call : Call) (b : Recorded) (answer : Answer) (a : Recorded) (es : List Event) → Since es b → Answers b call answer a → TellsCall call es a
 accepts_call (Start stations) b answer a es since (Ok u, e, t) = (opening stations ∷ [], refl, accepts_one (opening stations) b a es since t.0 t.1)
 accepts_call (Start stations) b answer a es since (Err f, e, t) = (opening stations ∷ [], refl, refuses_one (opening stations) b a es f since t.0 t.1)
 accepts_call (Write station register value) b answer a es since (Ok n, e, t) =
