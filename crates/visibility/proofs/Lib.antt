@@ -2,6 +2,7 @@ pub mod Below
 pub mod Stations
 pub mod Rounds
 pub mod Leasts
+pub mod Walks
 pub mod Spelled
 pub mod Drafting
 pub mod Readings

@@ -5,7 +5,7 @@ use Rattle.rows.specs.Members.{member, related}
 use Rattle.visibility.specs.declared.terms.Letter.TheVariants.{Station}
 use Rattle.visibility.specs.Shapes.{shapes_of}
 use Rattle.visibility.specs.Terms.{Walk}
-use Rattle.visibility.specs.Walks.{reached_more}
+use Rattle.visibility.proofs.Walks.{reached_more}
 use Rattle.visibility.proofs.terms.walking.reach.Goals as goal
 
 pub loop-j-init : goal.loop-j-init
