@@ -46,10 +46,10 @@ first_comma (l ∷ t) (k ∷ u) us y e =
     ((λ i. same_letter l k h i ∷ p.0 i), p.1)
 
 -- some terms, and at least one
-abbrev some_terms : List (List Letter) → Type 0
-some_terms us = (u : List Letter) × (vs : List (List Letter)) × (us ≡ u ∷ vs)
+abbrev SomeTerms : List (List Letter) → Type 0
+SomeTerms us = (u : List Letter) × (vs : List (List Letter)) × (us ≡ u ∷ vs)
 
-peel_one : (t : List Letter) (ts : List (List Letter)) (y : List ℕ) → codes t ++ 44 ∷ y ≡ spell ts → (us : List (List Letter)) × (ts ≡ t ∷ us) × (y ≡ spell us) × some_terms us
+peel_one : (t : List Letter) (ts : List (List Letter)) (y : List ℕ) → codes t ++ 44 ∷ y ≡ spell ts → (us : List (List Letter)) × (ts ≡ t ∷ us) × (y ≡ spell us) × SomeTerms us
 peel_one t [] y e = absurd (go t e)
   where
     go : (t : List Letter) → codes t ++ 44 ∷ y ≡ [] → ⊥
@@ -57,7 +57,7 @@ peel_one t [] y e = absurd (go t e)
     go (l ∷ t) e = nothing (code l) (codes t ++ 44 ∷ y) (sym e)
 peel_one t (u ∷ us) y e = go us (first_comma t u us y e)
   where
-    go : (us : List (List Letter)) → (t ≡ u) × (44 ∷ y ≡ after us) → (vs : List (List Letter)) × (u ∷ us ≡ t ∷ vs) × (y ≡ spell vs) × some_terms vs
+    go : (us : List (List Letter)) → (t ≡ u) × (44 ∷ y ≡ after us) → (vs : List (List Letter)) × (u ∷ us ≡ t ∷ vs) × (y ≡ spell vs) × SomeTerms vs
     go [] p = absurd (nothing 44 y (sym p.1))
     go (w ∷ ws) p = (w ∷ ws, ap (λ x. x ∷ w ∷ ws) (sym p.0), (let h : y ≡ codes w ++ after ws = cc p.1 in h), (w, ws, refl))
 
@@ -213,12 +213,12 @@ draft_comma bytes done cur d some h = record {
 }
 
 -- no terms are spelled by nothing
-spell_nothing : (us : List (List Letter)) → [] ≡ spell us → some_terms us → Each us → ⊥
+spell_nothing : (us : List (List Letter)) → [] ≡ spell us → SomeTerms us → Each us → ⊥
 spell_nothing [] h s each = let z = ap length s.2 in omega arith
 spell_nothing ([] ∷ us) h s each = let z = each.0.0 in omega arith
 spell_nothing ((l ∷ u) ∷ us) h s each = nothing (code l) (codes u ++ after us) h
 
-ends_early : (done us : List (List Letter)) → ahead done ≡ spell us → some_terms us → Each us → ⊥
+ends_early : (done us : List (List Letter)) → ahead done ≡ spell us → SomeTerms us → Each us → ⊥
 ends_early [] us h s each = spell_nothing us h s each
 ends_early (w ∷ done) us h s each = let q = peel_one w us (ahead done) h in ends_early done q.0 q.2 q.3 (subst Each q.1 each).1
 

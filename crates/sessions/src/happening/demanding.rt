@@ -57,7 +57,7 @@ impl Happening {
 
     // Whether `a` is another write of the register of `source`, and before a read whose source that is.
     fn derives(&self, outline: &Outline, seen: Table<'_>, a: usize, source: usize) -> bool
-        requires seen_inside { a < length (shapes_of outline.now) }
+        requires write_inside { a < length (shapes_of outline.now) }
         requires source_inside { source < length (shapes_of outline.now) }
         ensures { Decides result (Derives (related self.now.words) (shapes_of outline.now) (related seen.entry.words.now) a source) }
     {
