@@ -2,8 +2,10 @@
 //! Only this crate knows of words and bits; everyone else speaks of members and pairs.
 #![tactic(auto)]
 
+pub mod members;
 pub mod row;
 pub mod table;
 
+pub use members::Members;
 pub use row::Row;
 pub use table::{Table, clear, put_row};

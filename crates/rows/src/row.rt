@@ -3,6 +3,8 @@ ghost use Rattle.std.specs.Prelude.{◌≡◌, ℕ, ◌<◌, ◌≤◌, min, tru
 ghost use Rattle.rows.specs.Counts.{size};
 ghost use Rattle.rows.specs.Members.{bit, member, First};
 
+use crate::members::Members;
+
 /// A set of numbers below 256.
 #[derive(Clone, Copy)]
 pub struct Row {
@@ -133,6 +135,28 @@ impl Row {
             }
         }
         None
+    }
+
+    /// The members, the smallest first.
+    pub fn members(self) -> Members
+        ensures { result.left ≡ self }
+    {
+        Members { left: self }
+    }
+
+    /// The members that a test passes.
+    pub fn filter<F: Fn(usize) -> bool>(self, passes: F) -> Row
+        requires { (k : ℕ) → member self k ≡ true → F.pre passes k }
+        ensures passed { (k : ℕ) → member self k ≡ true → F.post passes k (member result k) }
+        ensures others { (k : ℕ) → member self k ≡ false → member result k ≡ false }
+    {
+        let mut passed = Row::empty();
+        for k in self.members() {
+            if passes(k) {
+                passed = passed.with(k);
+            }
+        }
+        passed
     }
 
     /// How many members there are.
