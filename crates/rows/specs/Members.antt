@@ -26,3 +26,8 @@ related t a b = has (row_of t a) b
 abbrev pub First : (ℕ → Bool) → Option ℕ → Type 0
 First P None = (k : ℕ) → P k ≡ false
 First P (Some b) = (b < 256) × (P b ≡ true) × ((k : ℕ) → k < b → P k ≡ false)
+
+-- the smallest member of which a test says yes, if there is one
+abbrev pub Found : (ℕ → Bool) → (ℕ → Bool → Type 0) → Option ℕ → Type 0
+Found P Says None = (k : ℕ) → P k ≡ true → Says k false
+Found P Says (Some b) = (P b ≡ true) × Says b true × ((k : ℕ) → k < b → P k ≡ true → Says k false)

@@ -1,7 +1,7 @@
 //! A set of the numbers 0 to 255, in four words of 64 bits. Each call costs a few operations on words.
 ghost use Rattle.std.specs.Prelude.{◌≡◌, ℕ, ◌<◌, ◌≤◌, min, true, false, not, ◌&&◌, ◌||◌, Decides, ◌==◌, count_ones, nat_lt};
 ghost use Rattle.rows.specs.Counts.{size};
-ghost use Rattle.rows.specs.Members.{bit, member, First};
+ghost use Rattle.rows.specs.Members.{bit, member, First, Found};
 
 use crate::members::Members;
 
@@ -157,6 +157,19 @@ impl Row {
             }
         }
         passed
+    }
+
+    /// The smallest member that a test passes.
+    pub fn find<F: Fn(usize) -> bool>(self, passes: F) -> Option<usize>
+        requires { (k : ℕ) → member self k ≡ true → F.pre passes k }
+        ensures { Found (member self) (λ k says. F.post passes k says) result }
+    {
+        for k in self.members() {
+            if passes(k) {
+                return Some(k);
+            }
+        }
+        None
     }
 
     /// How many members there are.

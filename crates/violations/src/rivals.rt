@@ -31,11 +31,7 @@ pub(crate) fn rivals_of(recording: &Recording, seen: Table<'_>, read: usize, sou
     requires { SourceOf (recorded recording.now).operations source read }
     ensures { (k : ℕ) → Decides (member result k) (Rival (recorded recording.now).operations (related seen.entry.words.now) read source k) }
 {
-    let mut rivals = Row::empty();
-    for other in 0..recording.count() {
-        if other != source && sees(recording, seen, read, other) {
-            rivals = rivals.with(other);
-        }
-    }
-    rivals
+    Row::below(recording.count())
+        .without(source)
+        .filter(|other| sees(recording, seen, read, other))
 }

@@ -12,10 +12,9 @@ use rows::{Row, Table};
 fn register_of(recording: &Recording, number: usize) -> u8
     ensures { result ≡ (at (recorded recording.now).operations number).register }
 {
-    match recording.operation(number) {
-        Some(operation) => operation.register,
-        None => 0,
-    }
+    recording
+        .operation(number)
+        .map_or(0, |operation| operation.register)
 }
 
 /// Whether a number names a write of `read`'s register that `read` sees.
@@ -35,24 +34,14 @@ pub fn sees(recording: &Recording, seen: Table<'_>, read: usize, write: usize) -
 fn is_write(recording: &Recording, number: usize) -> bool
     ensures { Decides result (IsWrite (recorded recording.now).operations number) }
 {
-    match recording.operation(number) {
-        Some(operation) => match operation.kind {
-            Kind::Write => true,
-            Kind::Read => false,
-        },
-        None => false,
-    }
+    recording
+        .operation(number)
+        .is_some_and(|operation| operation.kind == Kind::Write)
 }
 
 /// The writes.
 pub fn writes(recording: &Recording) -> Row
     ensures { (k : ℕ) → Decides (member result k) (IsWrite (recorded recording.now).operations k) }
 {
-    let mut row = Row::empty();
-    for number in 0..256 {
-        if is_write(recording, number) {
-            row = row.with(number);
-        }
-    }
-    row
+    Row::below(recording.count()).filter(|number| is_write(recording, number))
 }

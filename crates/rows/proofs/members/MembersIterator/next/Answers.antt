@@ -1,4 +1,4 @@
-use Rattle.std.proofs.Common.{rules, arith, Some}
+use Rattle.std.proofs.Common.{rules, Some}
 use Rattle.rows.specs.Members.{member, First}
 use Rattle.rows.proofs.Sizes.{size_without}
 use Rattle.rows.proofs.members.MembersIterator.next.Goals as goal

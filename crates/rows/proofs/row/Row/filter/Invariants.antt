@@ -1,4 +1,4 @@
-use Rattle.std.proofs.Common.{◌≡◌, ℕ, true, false, Bool}
+use Rattle.std.proofs.Common.{◌≡◌, ℕ, true, false}
 use Rattle.rows.specs.Members.{member}
 use Rattle.rows.proofs.row.Row.filter.Given as goal
 
