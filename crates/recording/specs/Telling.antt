@@ -1,5 +1,5 @@
 -- A recording as it is told: what each call answers, and the recording after it.
-use Rattle.std.specs.Prelude.{◌≡◌, ℕ, ◌<◌, ◌≤◌, false, ◌||◌, List, [], ◌∷◌, ◌++◌, length, take, Some, None, Ok, Err, Option, Result, ◌==◌, nat_le, nat_lt}
+use Rattle.std.specs.Prelude.{◌≡◌, ℕ, ◌<◌, ◌≤◌, false, ◌||◌, List, [], ◌∷◌, ◌++◌, length, Some, None, Ok, Err, Option, Result, ◌==◌, nat_le, nat_lt}
 use Rattle.recording.specs.declared.operation.Kind.TheVariants.{Write}
 use Rattle.recording.specs.declared.operation.Operation.{Operation}
 use Rattle.recording.specs.declared.refusal.Refusal.{Refusal}
@@ -15,7 +15,7 @@ pub record Recorded : Type 0 where
 
 -- what a `Recording` holds
 abbrev pub recorded : Recording → Recorded
-recorded r = record { stations = r.stations; operations = take r.count r.operations }
+recorded r = record { stations = r.stations; operations = r.operations.items }
 
 -- no operations yet
 abbrev pub empty : ℕ → Recorded

@@ -1,10 +1,11 @@
 //! A recording: what always holds of one.
-ghost use Rattle.std.specs.Prelude.{◌≡◌, ◌≤◌, length, take};
+ghost use Rattle.std.specs.Prelude.{◌≤◌, length};
 ghost use Rattle.recording.specs.Lawful.{InRange, NonZero, Apart};
 ghost use Rattle.recording.specs.Stations.{Kept};
 
 use crate::operation::Operation;
 use crate::stations::Stations;
+use arrayvec::ArrayVec;
 
 mod lookups;
 mod size;
@@ -14,15 +15,13 @@ mod telling;
 #[derive(Drop)]
 pub struct Recording {
     stations: u8,
-    count: usize,
-    operations: [Operation; 256],
+    operations: ArrayVec<Operation, 256>,
     table: Stations,
     ghost some: { 1 ≤ stations },
     ghost most: { stations ≤ 16 },
-    ghost few: { count ≤ 256 },
-    ghost room: { length operations ≡ 256 },
-    ghost range: { InRange stations (take count operations) },
-    ghost nonzero: { NonZero (take count operations) },
-    ghost apart: { Apart (take count operations) },
-    ghost kept: { Kept (take count operations) table.entries },
+    ghost few: { length operations.items ≤ 256 },
+    ghost range: { InRange stations operations.items },
+    ghost nonzero: { NonZero operations.items },
+    ghost apart: { Apart operations.items },
+    ghost kept: { Kept operations.items table.entries },
 }

@@ -1,5 +1,5 @@
 -- The words of a recording load back as that recording.
-use Rattle.std.proofs.Common.{◌≡◌, ℕ, ◌+◌, ◌^◌, ◌<◌, ◌≤◌, false, cond, not, ◌&&◌, ◌||◌, eqb, ltb, List, [], ◌∷◌, ◌++◌, map, length, take, drop, Some, None, Ok, Result, sym, refl, ap, ◌∙◌, subst, subst₂, inl, inr, append_assoc, append-nil, arith, length-append, length-take-le}
+use Rattle.std.proofs.Common.{◌≡◌, ℕ, ◌+◌, ◌^◌, ◌<◌, ◌≤◌, false, cond, not, ◌&&◌, ◌||◌, eqb, ltb, List, [], ◌∷◌, ◌++◌, map, length, take, drop, Some, None, Ok, Result, sym, refl, ap, ◌∙◌, subst, subst₂, inl, inr, append_assoc, append-nil, arith, length-append}
 use lib.ListN.{length-map}
 use lib.Seq.{get_or-append_seam}
 use Rattle.std.proofs.lemmas.List.{length_push, get_or_append_left, take_at}
@@ -243,7 +243,7 @@ loads_back r some most few range nonzero' apart before answer after (inr t) =
 
 pub recording_loads_back : (r : Recording) → LoadsBack (recorded r)
 recording_loads_back r =
-    loads_back (recorded r) r.some r.most (omega (arith, length-take-le r.count r.operations (omega (arith, r.few, r.room)), r.few)) r.range r.nonzero r.apart
+    loads_back (recorded r) r.some r.most r.few r.range r.nonzero r.apart
 
 -- the words that were saved, at the front
 pub saved_front : (r : Recorded) (n : ℕ) (before after : List ℕ) → n ≡ length r.operations + 2 → after ≡ words_of r ++ drop n before → take n after ≡ words_of r

@@ -15,11 +15,7 @@ impl Recording {
     pub fn operation(&self, number: usize) -> Option<Operation>
         ensures { OperationAnswer (recorded self.now).operations number result }
     {
-        if number < self.count() {
-            Some(self.held(number))
-        } else {
-            None
-        }
+        self.operations.get(number).copied()
     }
 
     /// What is kept of a station: its count of operations, and its last one.
@@ -31,14 +27,6 @@ impl Recording {
         } else {
             None
         }
-    }
-
-    // An operation, by the number of one that is there.
-    fn held(&self, number: usize) -> Operation
-        requires { number < length (recorded self.now).operations }
-        ensures { result ≡ at (recorded self.now).operations number }
-    {
-        self.operations[number]
     }
 
     // The entry of a station that is there.
@@ -61,16 +49,11 @@ impl Recording {
     fn giver(&self, register: u8, value: u32) -> Option<usize>
         ensures { Giver (recorded self.now).operations register value result }
     {
-        for number in 0..self.count() {
-            let operation = self.held(number);
-            if operation.kind == Kind::Write
+        self.operations.iter().position(|operation| {
+            operation.kind == Kind::Write
                 && operation.register == register
                 && operation.value == value
-            {
-                return Some(number);
-            }
-        }
-        None
+        })
     }
 
     /// The source of a read: the write that gives its register its value, wherever it stands. Refuses by 7.

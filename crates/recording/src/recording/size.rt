@@ -16,6 +16,6 @@ impl Recording {
     pub fn count(&self) -> usize
         ensures { result ≡ length (recorded self.now).operations }
     {
-        self.count
+        self.operations.len()
     }
 }

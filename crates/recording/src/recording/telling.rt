@@ -7,13 +7,7 @@ use crate::operation::{Kind, Operation};
 use crate::recording::Recording;
 use crate::refusal::Refusal;
 use crate::stations::Stations;
-
-const BLANK: Operation = Operation {
-    kind: Kind::Read,
-    station: 0,
-    register: 0,
-    value: 0,
-};
+use arrayvec::ArrayVec;
 
 impl Recording {
     /// A recording that no start was told: one station, and no operations.
@@ -31,8 +25,7 @@ impl Recording {
     {
         Recording {
             stations,
-            count: 0,
-            operations: [BLANK; 256],
+            operations: ArrayVec::new(),
             table: Stations::silent(),
         }
     }
@@ -61,7 +54,7 @@ impl Recording {
         if value == 0 || value > 524_287 {
             return Err(Refusal::ValueOutOfRange);
         }
-        if self.count >= 256 {
+        if self.operations.is_full() {
             return Err(Refusal::Full);
         }
         if self.is_written(register as u8, value) {
@@ -88,7 +81,7 @@ impl Recording {
         if value > 524_287 {
             return Err(Refusal::ValueOutOfRange);
         }
-        if self.count >= 256 {
+        if self.operations.is_full() {
             return Err(Refusal::Full);
         }
         Ok(self.append(Operation {
@@ -106,9 +99,8 @@ impl Recording {
         ensures number { result ≡ length (recorded self.old).operations }
         ensures after { recorded self.new ≡ with (recorded self.old) operation }
     {
-        let number = self.count;
-        self.operations[number] = operation;
-        self.count = number + 1;
+        let number = self.operations.len();
+        self.operations.push(operation);
         self.table.note(operation.station as usize, number);
         number
     }

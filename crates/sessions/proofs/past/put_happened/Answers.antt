@@ -1,5 +1,4 @@
-use Rattle.std.proofs.Common.{subst, arith}
-use Rattle.std.proofs.lemmas.List.{length-take-le}
+use Rattle.std.proofs.Common.{subst}
 use Rattle.recording.specs.Telling.{recorded}
 use Rattle.rows.specs.Members.{related}
 use Rattle.visibility.specs.Growth.{Least}
@@ -14,7 +13,7 @@ returns-then-table-eq1024 c =
     let words = c.of.result.words in
     record {
       happened = λ g.
-          happened_before (recorded r).operations (omega (arith, length-take-le r.count r.operations (omega (arith, r.few, r.room)), r.few)) (related c.args.seen.words.now) c.args.last g.inside g.within
+          happened_before (recorded r).operations r.few (related c.args.seen.words.now) c.args.last g.inside g.within
           words c.put_past.new.table c.of.ensures c.put_past.ensures (related c.grow.new.table)
           (subst (λ f. Least (Asked (HappeningDemand (related words)) f) (related c.put_past.new.table) (related c.grow.new.table)) c.of-then-table-eq1024.ensures (c.grow.ensures.least c.put_past.ensures.long));
       unfit = λ n. absurd (n c.if-table-eq1024.true);

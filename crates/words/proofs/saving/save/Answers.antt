@@ -1,4 +1,4 @@
-use Rattle.std.proofs.Common.{◌≡◌, ◌+◌, ◌<◌, [], ◌∷◌, ◌++◌, map, length, take, drop, sym, refl, ap, ◌∙◌, subst, arith, length-set, length-take-le, take_all, drop-set-lt}
+use Rattle.std.proofs.Common.{◌≡◌, ◌+◌, ◌<◌, [], ◌∷◌, ◌++◌, map, length, take, drop, sym, refl, ap, ◌∙◌, subst, arith, length-set, take_all, drop-set-lt}
 use Rattle.std.proofs.lemmas.List.{map_more}
 use Rattle.recording.specs.Operations.{write_of, at}
 use Rattle.recording.specs.Telling.{recorded}
@@ -37,7 +37,6 @@ returns c =
     let front = subst (λ n. take (n + 1) ws ≡ opening_word r.stations ∷ map operation_word (take n r.operations)) all c.loop-number.invariant.0 in
     let front-all = front ∙ ap (λ l. opening_word r.stations ∷ map operation_word l) (take_all count r.operations (omega arith)) in
     let rest = subst (λ n. drop (n + 1) ws ≡ drop (n + 1) before) all (c.loop-number.invariant.1 ∙ drop-set-lt (c.loop-number.number + 1) before 0 _ (omega arith)) in
-    let few = length-take-le c.args.recording.now.count c.args.recording.now.operations (omega arith) in
     let last = closing_spelled count (omega arith) ∙ ap closing_word c.count-count.ensures in
     let two : count + 1 + 1 ≡ count + 2 = omega arith in (
       omega arith,

@@ -1,4 +1,4 @@
-use Rattle.std.proofs.Common.{◌≡◌, [], ◌∷◌, ◌++◌, map, take, sym, ap, ◌∙◌, subst, arith, length-set, length-take-le, take_all}
+use Rattle.std.proofs.Common.{◌≡◌, [], ◌∷◌, ◌++◌, map, take, sym, ap, ◌∙◌, subst, arith, length-set, take_all}
 use Rattle.std.proofs.lemmas.List.{take_more_set, map_more}
 use Rattle.recording.specs.Operations.{write_of}
 use Rattle.recording.specs.Telling.{recorded}
@@ -10,7 +10,6 @@ loop-number-preserved c =
     let ops = (recorded c.args.recording.now).operations in
     let n = c.loop-number.number in
     let told = c.in-Some.ensures in
-    let few = length-take-le c.args.recording.now.count c.args.recording.now.operations (omega arith) in
     let long = c.loop-number.invariant.1 in (
       take_more_set c.loop-number.shapes n _ (omega arith)
           ∙ ap (λ l. l ++ shape c.in-Some.operation ∷ []) c.loop-number.invariant.0
@@ -21,7 +20,6 @@ loop-number-preserved c =
 
 pub invariant_of-result : goal.invariant_of-result
 invariant_of-result c =
-    let few = length-take-le c.args.recording.now.count c.args.recording.now.operations (omega arith) in
     record { few = omega arith; room = c.loop-number.invariant.1 }
 
 pub returns : goal.returns
