@@ -1,14 +1,18 @@
 -- Lists of operations, by their numbers, which are places in the list.
-use Rattle.std.specs.Prelude.{◌≡◌, ℕ, ◌<◌, Bool, true, false, ◌&&◌, ◌||◌, List, [], ◌∷◌, length, ◌==◌, slice_index_or}
+use Rattle.std.specs.Prelude.{◌≡◌, ℕ, ◌<◌, Bool, true, false, ◌&&◌, List, length, ◌==◌, slice_index_or}
+use Rattle.std.specs.List.{list_any}
 use Rattle.recording.specs.declared.operation.Kind.{Kind}
 use Rattle.recording.specs.declared.operation.Kind.TheVariants.{Write, Read}
 use Rattle.recording.specs.declared.operation.Operation.{Operation}
 
+abbrev pub operation_of : Kind → ℕ → ℕ → ℕ → Operation
+operation_of kind station register value = record { kind = kind; station = station; register = register; value = value }
+
 abbrev pub write_of : ℕ → ℕ → ℕ → Operation
-write_of station register value = record { kind = Write; station = station; register = register; value = value }
+write_of = operation_of Write
 
 abbrev pub read_of : ℕ → ℕ → ℕ → Operation
-read_of station register value = record { kind = Read; station = station; register = register; value = value }
+read_of = operation_of Read
 
 abbrev pub is_write : Kind → Bool
 is_write Write = true
@@ -37,9 +41,8 @@ abbrev pub gives : Operation → ℕ → ℕ → Bool
 gives x reg v = is_write x.kind && (x.register == reg && x.value == v)
 
 -- whether some operation writes the value v to the register
-unfoldable pub written : List Operation → ℕ → ℕ → Bool
-written [] reg v = false
-written (x ∷ xs) reg v = gives x reg v || written xs reg v
+abbrev pub written : List Operation → ℕ → ℕ → Bool
+written ops reg v = list_any (λ x. gives x reg v) ops
 
 -- write w is the source of read r: it gives r's register the value that r has
 pub record SourceOf (ops : List Operation) (w r : ℕ) : Type 0 where

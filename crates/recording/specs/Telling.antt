@@ -1,6 +1,7 @@
 -- A recording as it is told: what each call answers, and the recording after it.
 use Rattle.std.specs.Prelude.{◌≡◌, ℕ, ◌<◌, ◌≤◌, false, ◌||◌, List, [], ◌∷◌, ◌++◌, length, Some, None, Ok, Err, Option, Result, ◌==◌, nat_le, nat_lt}
-use Rattle.recording.specs.declared.operation.Kind.TheVariants.{Write}
+use Rattle.recording.specs.declared.operation.Kind.{Kind}
+use Rattle.recording.specs.declared.operation.Kind.TheVariants.{Write, Read}
 use Rattle.recording.specs.declared.operation.Operation.{Operation}
 use Rattle.recording.specs.declared.refusal.Refusal.{Refusal}
 use Rattle.recording.specs.declared.refusal.Refusal.TheVariants.{StationCount, NoSuchStation, NoSuchRegister, ValueOutOfRange, Full, ValueRepeated}
@@ -55,6 +56,11 @@ read_ground before station reg v = first (
     ∷ ValueOutOfRange when nat_lt 524287 v
     ∷ Full when nat_le 256 (length before.operations)
     ∷ [])
+
+-- why an operation of that kind is refused
+abbrev pub ground_of : Kind → Recorded → ℕ → ℕ → ℕ → Option Refusal
+ground_of Write = write_ground
+ground_of Read = read_ground
 
 -- what a start answers: nothing, and the recording is empty; or the ground, and nothing has changed
 abbrev pub Started : Recorded → ℕ → Result (Unit {0}) Refusal → Recorded → Type 0

@@ -1,4 +1,5 @@
 //! One operation of a recording.
+ghost use Rattle.std.specs.Prelude.{◌≡◌};
 
 /// What an operation does with its register.
 #[derive(Clone, Copy, Default, PartialEq, Eq)]
@@ -15,4 +16,15 @@ pub struct Operation {
     pub station: u8,
     pub register: u8,
     pub value: u32,
+}
+
+impl Operation {
+    ghost use Rattle.recording.specs.Operations.{gives};
+
+    // Whether it writes the value to the register.
+    pub(crate) fn gives(&self, register: u8, value: u32) -> bool
+        ensures { result ≡ gives self.now register value }
+    {
+        self.kind == Kind::Write && self.register == register && self.value == value
+    }
 }

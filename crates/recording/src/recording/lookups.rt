@@ -11,6 +11,13 @@ use crate::refusal::Refusal;
 use crate::stations::Entry;
 
 impl Recording {
+    /// The operations, each at the place of its number.
+    pub fn operations(&self) -> &[Operation]
+        ensures { result.now ≡ (recorded self.now).operations }
+    {
+        self.operations.as_slice()
+    }
+
     /// The operation of that number.
     pub fn operation(&self, number: usize) -> Option<Operation>
         ensures { OperationAnswer (recorded self.now).operations number result }
@@ -42,18 +49,18 @@ impl Recording {
     pub(crate) fn is_written(&self, register: u8, value: u32) -> bool
         ensures { result ≡ written (recorded self.now).operations register value }
     {
-        self.giver(register, value).is_some()
+        self.operations
+            .iter()
+            .any(|operation| operation.gives(register, value))
     }
 
     // The write that gives the register the value.
     fn giver(&self, register: u8, value: u32) -> Option<usize>
         ensures { Giver (recorded self.now).operations register value result }
     {
-        self.operations.iter().position(|operation| {
-            operation.kind == Kind::Write
-                && operation.register == register
-                && operation.value == value
-        })
+        self.operations
+            .iter()
+            .position(|operation| operation.gives(register, value))
     }
 
     /// The source of a read: the write that gives its register its value, wherever it stands. Refuses by 7.

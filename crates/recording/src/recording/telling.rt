@@ -1,7 +1,7 @@
 //! How a recording is told: start, write and read.
 ghost use Rattle.std.specs.Prelude.{◌≡◌, ℕ, ◌<◌, ◌≤◌, [], length};
-ghost use Rattle.recording.specs.Operations.{write_of, read_of};
-ghost use Rattle.recording.specs.Telling.{recorded, empty, with, Allowed, write_ground, read_ground, Started, Told};
+ghost use Rattle.recording.specs.Operations.{write_of, read_of, operation_of};
+ghost use Rattle.recording.specs.Telling.{recorded, empty, with, Allowed, write_ground, read_ground, ground_of, Started, Told};
 
 use crate::operation::{Kind, Operation};
 use crate::recording::Recording;
@@ -45,47 +45,47 @@ impl Recording {
     pub fn write(&mut self, station: u32, register: u32, value: u32) -> Result<usize, Refusal>
         ensures { Told (write_ground (recorded self.old) station register value) (write_of station register value) (recorded self.old) result (recorded self.new) }
     {
-        if station >= self.stations as u32 {
-            return Err(Refusal::NoSuchStation);
-        }
-        if register > 63 {
-            return Err(Refusal::NoSuchRegister);
-        }
-        if value == 0 || value > 524_287 {
-            return Err(Refusal::ValueOutOfRange);
-        }
-        if self.operations.is_full() {
-            return Err(Refusal::Full);
-        }
-        if self.is_written(register as u8, value) {
-            return Err(Refusal::ValueRepeated);
-        }
-        Ok(self.append(Operation {
-            kind: Kind::Write,
-            station: station as u8,
-            register: register as u8,
-            value,
-        }))
+        self.take(Kind::Write, station, register, value)
     }
 
     /// Takes a read in. Refuses by 2, 3, 4 or 5; else answers its number.
     pub fn read(&mut self, station: u32, register: u32, value: u32) -> Result<usize, Refusal>
         ensures { Told (read_ground (recorded self.old) station register value) (read_of station register value) (recorded self.old) result (recorded self.new) }
     {
-        if station >= self.stations as u32 {
+        self.take(Kind::Read, station, register, value)
+    }
+
+    // Takes an operation of that kind in.
+    fn take(
+        &mut self,
+        kind: Kind,
+        station: u32,
+        register: u32,
+        value: u32,
+    ) -> Result<usize, Refusal>
+        ensures { Told (ground_of kind (recorded self.old) station register value) (operation_of kind station register value) (recorded self.old) result (recorded self.new) }
+    {
+        if station >= u32::from(self.stations) {
             return Err(Refusal::NoSuchStation);
         }
         if register > 63 {
             return Err(Refusal::NoSuchRegister);
         }
-        if value > 524_287 {
+        let in_range = match kind {
+            Kind::Write => 1 <= value && value <= 524_287,
+            Kind::Read => value <= 524_287,
+        };
+        if !in_range {
             return Err(Refusal::ValueOutOfRange);
         }
         if self.operations.is_full() {
             return Err(Refusal::Full);
         }
+        if kind == Kind::Write && self.is_written(register as u8, value) {
+            return Err(Refusal::ValueRepeated);
+        }
         Ok(self.append(Operation {
-            kind: Kind::Read,
+            kind,
             station: station as u8,
             register: register as u8,
             value,
