@@ -1,11 +1,15 @@
 -- What the operations on rows and tables do to each member.
-use Rattle.std.proofs.Common.{◌≡◌, ℕ, zero, suc, ◌+◌, ◌-◌, ◌*◌, ◌/◌, ◌%◌, ◌^◌, ◌<◌, ◌≤◌, min, Bool, true, false, not, ◌&&◌, ◌||◌, eqb, ltb, List, [], ◌∷◌, length, get_or, set, replicate, Some, sym, refl, ap, ◌∙◌, inl, inr, arith, lit<}
+use Rattle.std.proofs.Common.{◌≡◌, ℕ, None, zero, suc, ◌+◌, ◌-◌, ◌*◌, ◌/◌, ◌%◌, ◌^◌, ◌<◌, ◌≤◌, min, Bool, true, false, not, ◌&&◌, ◌||◌, eqb, ltb, List, [], ◌∷◌, length, get_or, set, replicate, Some, sym, refl, ap, ◌∙◌, inl, inr, arith, lit<}
 use lib.Bits.{bit_and, bit_or}
 use lib.Count.{count_trailing_zeros}
 use Rattle.std.proofs.lemmas.Nat.{one_shl, pow_below}
 use Rattle.std.proofs.lemmas.List.{get_or-set_same, get_or-set_other, get_or_past, length-set, length-replicate, get_or-replicate, ext_get_or}
 use Rattle.std.proofs.lemmas.Bool.Decides.{nat_tests}
 use Rattle.std.proofs.lemmas.Bool.{cases_eq, cases_lt, both_ways, ne_eqb, le-ltb}
+use Rattle.std.specs.List.{position, position_or_len}
+use Rattle.std.proofs.lemmas.List.Quantifiers.{position-Some}
+use Rattle.std.proofs.lemmas.List.Sums.{fails_before_first}
+use Rattle.std.proofs.lemmas.Grind.{common_steps}
 use Rattle.rows.specs.Members.{bit, has, row_of, First}
 use Rattle.rows.proofs.Bit.{bit_none, bit-or, bit-and, bit_not, bit_one, same_bits, lowest_set}
 
@@ -24,60 +28,44 @@ has_past ws n k l h = ap (λ (x : ℕ). bit x (k % 64)) (get_or_past ws (k / 64)
 pub has_below : (ws : List ℕ) (k : ℕ) → length ws ≡ 4 → has ws k ≡ true → k < 256
 has_below ws k l h = elim (cases_lt k 256) [ inl p ↦ p | inr p ↦ absurd (both_ways (has ws k) (has_past ws 4 k l (omega arith)) h) ]
 
-pub at_four : (P : ℕ → Type 0) → P 0 → P 1 → P 2 → P 3 → ((q : ℕ) → 4 ≤ q → P q) → (q : ℕ) → P q
-at_four P a b c d e zero = a
-at_four P a b c d e (suc zero) = b
-at_four P a b c d e (suc (suc zero)) = c
-at_four P a b c d e (suc (suc (suc zero))) = d
-at_four P a b c d e (suc (suc (suc (suc q)))) = e (suc (suc (suc (suc q)))) (omega arith)
+-- words of zeros have no member
+none_in : (ws : List ℕ) (n : ℕ) → ((q : ℕ) → q < n → get_or ws q 0 ≡ 0) → (k : ℕ) → k < 64 * n → has ws k ≡ false
+none_in ws n zeros k h = has_word ws (k / 64) k refl ∙ ap (λ (x : ℕ). bit x (k % 64)) (zeros (k / 64) (omega arith)) ∙ bit_none (k % 64)
+
+zero_at : (n i : ℕ) → ◌≡◌ {A = ℕ} (get_or (replicate n 0) i 0) 0
+zero_at n i = elim (cases_lt i n) [ inl h ↦ get_or-replicate n i 0 0 h | inr h ↦ get_or_past (replicate n 0) i 0 (omega (arith, length-replicate {A = ℕ} n 0)) ]
 
 pub has_nothing : (k : ℕ) → has (0 ∷ 0 ∷ 0 ∷ 0 ∷ []) k ≡ false
-unfolding has
-has_nothing k =
-    let n = bit_none (k % 64) in
-    let zs : List ℕ = 0 ∷ 0 ∷ 0 ∷ 0 ∷ [] in
-    at_four (λ q. bit (get_or zs q 0) (k % 64) ≡ false) n n n n (λ q h. ap (λ (x : ℕ). bit x (k % 64)) (get_or_past zs q 0 h) ∙ n) (k / 64)
+has_nothing k = none_in (replicate 4 0) (k / 64 + 1) (λ q _. zero_at 4 q) k (omega arith)
 
 -- ---- an operation on two rows, word by word
 
-pub has_zip : (g : Bool → Bool → Bool) (f : ℕ → ℕ → ℕ) (xs ys : List ℕ) → g false false ≡ false → length xs ≡ 4 → length ys ≡ 4
-    → ((q i : ℕ) → i < 64 → bit (f (get_or xs q 0) (get_or ys q 0)) i ≡ g (bit (get_or xs q 0) i) (bit (get_or ys q 0) i))
-    → (k : ℕ)
-    → has (f (get_or xs 0 0) (get_or ys 0 0) ∷ f (get_or xs 1 0) (get_or ys 1 0) ∷ f (get_or xs 2 0) (get_or ys 2 0) ∷ f (get_or xs 3 0) (get_or ys 3 0) ∷ []) k
-    ≡ g (has xs k) (has ys k)
-unfolding has
-has_zip g f xs ys z l m op k =
-    let zs : List ℕ = f (get_or xs 0 0) (get_or ys 0 0) ∷ f (get_or xs 1 0) (get_or ys 1 0) ∷ f (get_or xs 2 0) (get_or ys 2 0) ∷ f (get_or xs 3 0) (get_or ys 3 0) ∷ [] in
-    let h : k % 64 < 64 = omega arith in
-    let past : (q : ℕ) → 4 ≤ q → bit (get_or zs q 0) (k % 64) ≡ g (bit (get_or xs q 0) (k % 64)) (bit (get_or ys q 0) (k % 64)) =
-    λ q r.
-    let a = get_or_past zs q 0 r in
-    let b = get_or_past xs q 0 (omega arith) in
-    let c = get_or_past ys q 0 (omega arith) in
-    let n = bit_none (k % 64) in
-    cc in
-    at_four (λ q. bit (get_or zs q 0) (k % 64) ≡ g (bit (get_or xs q 0) (k % 64)) (bit (get_or ys q 0) (k % 64)))
-    (op 0 (k % 64) h) (op 1 (k % 64) h) (op 2 (k % 64) h) (op 3 (k % 64) h) past (k / 64)
+module _ (xs ys zs : List ℕ) (l : length xs ≡ 4) (m : length ys ≡ 4) (n : length zs ≡ 4) where
+  has_zip : (g : Bool → Bool → Bool) → g false false ≡ false
+      → ((q i : ℕ) → q < 4 → i < 64 → bit (get_or zs q 0) i ≡ g (bit (get_or xs q 0) i) (bit (get_or ys q 0) i)) → (k : ℕ) → has zs k ≡ g (has xs k) (has ys k)
+  unfolding has
+  has_zip g none words k =
+      let low : k % 64 < 64 = omega arith in
+      elim (cases_lt (k / 64) 4) [
+        | inl h ↦ words (k / 64) (k % 64) h low
+        | inr h ↦
+            let a = has_past zs 4 k n (omega arith) in
+            let b = has_past xs 4 k l (omega arith) in
+            let c = has_past ys 4 k m (omega arith) in
+            cc
+      ]
 
-pub has_union : (xs ys : List ℕ) → length xs ≡ 4 → length ys ≡ 4 → (k : ℕ)
-    → has (bit_or (get_or xs 0 0) (get_or ys 0 0) ∷ bit_or (get_or xs 1 0) (get_or ys 1 0) ∷ bit_or (get_or xs 2 0) (get_or ys 2 0) ∷ bit_or (get_or xs 3 0) (get_or ys 3 0) ∷ []) k
-    ≡ (has xs k || has ys k)
-has_union xs ys l m = has_zip (λ x y. x || y) bit_or xs ys refl l m (λ q i h. bit-or (get_or xs q 0) (get_or ys q 0) i)
+  pub has_union : ((q : ℕ) → q < 4 → get_or zs q 0 ≡ bit_or (get_or xs q 0) (get_or ys q 0)) → (k : ℕ) → has zs k ≡ (has xs k || has ys k)
+  has_union e = has_zip (λ x y. x || y) refl (λ q i h _. ap (λ w. bit w i) (e q h) ∙ bit-or (get_or xs q 0) (get_or ys q 0) i)
 
-pub has_intersect : (xs ys : List ℕ) → length xs ≡ 4 → length ys ≡ 4 → (k : ℕ)
-    → has (bit_and (get_or xs 0 0) (get_or ys 0 0) ∷ bit_and (get_or xs 1 0) (get_or ys 1 0) ∷ bit_and (get_or xs 2 0) (get_or ys 2 0) ∷ bit_and (get_or xs 3 0) (get_or ys 3 0) ∷ []) k
-    ≡ (has xs k && has ys k)
-has_intersect xs ys l m = has_zip (λ x y. x && y) bit_and xs ys refl l m (λ q i h. bit-and (get_or xs q 0) (get_or ys q 0) i)
+  pub has_intersection : ((q : ℕ) → q < 4 → get_or zs q 0 ≡ bit_and (get_or xs q 0) (get_or ys q 0)) → (k : ℕ) → has zs k ≡ (has xs k && has ys k)
+  has_intersection e = has_zip (λ x y. x && y) refl (λ q i h _. ap (λ w. bit w i) (e q h) ∙ bit-and (get_or xs q 0) (get_or ys q 0) i)
 
-abbrev pub lacks : ℕ → ℕ → ℕ
-lacks x y = bit_and x (2 ^ 64 - 1 - y)
-
-pub has_minus : (xs ys : List ℕ) → length xs ≡ 4 → length ys ≡ 4 → ((q : ℕ) → get_or ys q 0 < 2 ^ 64) → (k : ℕ)
-    → has (lacks (get_or xs 0 0) (get_or ys 0 0) ∷ lacks (get_or xs 1 0) (get_or ys 1 0) ∷ lacks (get_or xs 2 0) (get_or ys 2 0) ∷ lacks (get_or xs 3 0) (get_or ys 3 0) ∷ []) k
-    ≡ (has xs k && not (has ys k))
-has_minus xs ys l m fit =
-    has_zip (λ x y. x && not y) lacks xs ys refl l m
-    (λ q i h. bit-and (get_or xs q 0) (2 ^ 64 - 1 - get_or ys q 0) i ∙ ap (λ x. bit (get_or xs q 0) i && x) (bit_not 64 (get_or ys q 0) i (fit q) h))
+  pub has_difference : ((q : ℕ) → get_or ys q 0 < 2 ^ 64) → ((q : ℕ) → q < 4 → get_or zs q 0 ≡ bit_and (get_or xs q 0) (2 ^ 64 - 1 - get_or ys q 0))
+      → (k : ℕ) → has zs k ≡ (has xs k && not (has ys k))
+  has_difference fit e =
+      has_zip (λ x y. x && not y) refl
+      (λ q i h low. ap (λ w. bit w i) (e q h) ∙ bit-and (get_or xs q 0) (2 ^ 64 - 1 - get_or ys q 0) i ∙ ap (λ x. bit (get_or xs q 0) i && x) (bit_not 64 (get_or ys q 0) i (fit q) low))
 
 -- ---- one member more, and one less
 
@@ -147,88 +135,39 @@ same_rows xs ys l f g e =
 
 -- ---- the smallest member
 
-pub none_more : (ws : List ℕ) (q : ℕ) → ((k : ℕ) → k < 64 * q → has ws k ≡ false) → get_or ws q 0 ≡ 0 → (k : ℕ) → k < 64 * (q + 1) → has ws k ≡ false
-none_more ws q low e k h =
-    elim (cases_lt k (64 * q)) [
-      | inl p ↦ low k p
-      | inr p ↦ has_word ws q k (omega arith) ∙ ap (λ (x : ℕ). bit x (k % 64)) e ∙ bit_none (k % 64)
+abbrev pub nonzero : ℕ → Bool
+nonzero w = not (eqb w 0)
+
+zero_word : (w : ℕ) → nonzero w ≡ false → w ≡ 0
+zero_word w e = grind (arith, nat_tests)
+
+some_bit : (w : ℕ) → nonzero w ≡ true → 0 < w
+some_bit w e = grind (arith, nat_tests)
+
+pub first_none : (ws : List ℕ) → length ws ≡ 4 → position nonzero ws ≡ None → First (has ws) None
+first_none ws l e k =
+    let past : 4 ≤ position_or_len nonzero ws = grind (arith, common_steps) in
+    elim (cases_lt k 256) [
+      | inl p ↦ none_in ws 4 (λ q h. zero_word (get_or ws q 0) (fails_before_first nonzero ws q 0 (omega arith))) k (omega arith)
+      | inr p ↦ has_past ws 4 k l (omega arith)
     ]
 
-pub none_all : (ws : List ℕ) (q : ℕ) → length ws ≡ 4 → 4 ≤ q → ((k : ℕ) → k < 64 * q → has ws k ≡ false) → (k : ℕ) → has ws k ≡ false
-none_all ws q l r low k = elim (cases_lt k 256) [ inl p ↦ low k (omega arith) | inr p ↦ has_past ws 4 k l (omega arith) ]
-
-pub first_found : (ws : List ℕ) (q : ℕ) → ((k : ℕ) → k < 64 * q → has ws k ≡ false) → q < 4 → get_or ws q 0 < 2 ^ 64 → (get_or ws q 0 ≡ 0 → ⊥)
+pub first_some : (ws : List ℕ) (q : ℕ) → length ws ≡ 4 → ((q : ℕ) → get_or ws q 0 < 2 ^ 64) → position nonzero ws ≡ Some q
     → First (has ws) (Some (64 * q + count_trailing_zeros 64 (get_or ws q 0)))
-first_found ws q low h fit ne =
-    let t = lowest_set 64 (get_or ws q 0) (omega arith) fit in
-    let l = t.0 in (
+first_some ws q l fit e =
+    let p = position-Some nonzero ws q 0 e in
+    let t = lowest_set 64 (get_or ws q 0) (some_bit (get_or ws q 0) p.1) (fit q) in
+    let low = p.0 in
+    let b = t.0 in (
       omega arith,
-      has_at ws q (count_trailing_zeros 64 (get_or ws q 0)) l ∙ t.1,
+      has_at ws q (count_trailing_zeros 64 (get_or ws q 0)) b ∙ t.1,
       λ k r. elim (cases_lt k (64 * q)) [
-        | inl p ↦ low k p
-        | inr p ↦
-            let e : k / 64 ≡ q = omega arith in
-            has_word ws q k e ∙ t.2 (k % 64) (omega arith)
+        | inl h ↦ none_in ws q (λ i u. zero_word (get_or ws i 0) (p.2 i u)) k h
+        | inr h ↦
+            let d : k / 64 ≡ q = omega arith in
+            has_word ws q k d ∙ t.2 (k % 64) (omega arith)
       ],
     )
-
--- ---- the rows of a table after a write
-
-pub four_words : (ws : List ℕ) → length ws ≡ 4 → get_or ws 0 0 ∷ get_or ws 1 0 ∷ get_or ws 2 0 ∷ get_or ws 3 0 ∷ [] ≡ ws
-four_words [] l = absurd (omega arith)
-four_words (a ∷ []) l = absurd (omega arith)
-four_words (a ∷ b ∷ []) l = absurd (omega arith)
-four_words (a ∷ b ∷ c ∷ []) l = absurd (omega arith)
-four_words (a ∷ b ∷ c ∷ d ∷ []) l = refl
-four_words (a ∷ b ∷ c ∷ d ∷ e ∷ ws) l = absurd (omega arith)
-
-module _ (t : List ℕ) (p a b c d : ℕ) where
-  abbrev pub put_four : List ℕ
-  put_four = set (set (set (set t p a) (p + 1) b) (p + 2) c) (p + 3) d
-
-  pub length_put_four : length put_four ≡ length t
-  length_put_four = simp length-set
-
-  pub put_others : (x : ℕ) → (x ≡ p → ⊥) → (x ≡ p + 1 → ⊥) → (x ≡ p + 2 → ⊥) → (x ≡ p + 3 → ⊥) → get_or put_four x 0 ≡ get_or t x 0
-  put_others x h i j k = simp get_or-set_other
-
-  pub put_at : p + 3 < length t → (get_or put_four p 0 ≡ a) × (get_or put_four (p + 1) 0 ≡ b) × (get_or put_four (p + 2) 0 ≡ c) × (get_or put_four (p + 3) 0 ≡ d)
-  put_at h = (
-    get_or-set_other _ (p + 3) p d 0 (omega arith) ∙ get_or-set_other _ (p + 2) p c 0 (omega arith) ∙ get_or-set_other _ (p + 1) p b 0 (omega arith)
-        ∙ get_or-set_same t p a 0 (omega arith),
-    get_or-set_other _ (p + 3) (p + 1) d 0 (omega arith) ∙ get_or-set_other _ (p + 2) (p + 1) c 0 (omega arith)
-        ∙ get_or-set_same _ (p + 1) b 0 (omega (arith, length-set t p a)),
-    get_or-set_other _ (p + 3) (p + 2) d 0 (omega arith) ∙ get_or-set_same _ (p + 2) c 0 (omega (arith, length-set t p a, length-set (set t p a) (p + 1) b)),
-    get_or-set_same _ (p + 3) d 0 (omega (arith, length-set t p a, length-set (set t p a) (p + 1) b, length-set (set (set t p a) (p + 1) b) (p + 2) c)),
-  )
-
-module _ (t : List ℕ) (a : ℕ) (ws : List ℕ) (l : length ws ≡ 4) where
-  abbrev pub with_row : List ℕ
-  with_row = put_four t (4 * a) (get_or ws 0 0) (get_or ws 1 0) (get_or ws 2 0) (get_or ws 3 0)
-
-  pub row_here : 4 * a + 3 < length t → row_of with_row a ≡ ws
-  row_here h =
-      let q = put_at t (4 * a) (get_or ws 0 0) (get_or ws 1 0) (get_or ws 2 0) (get_or ws 3 0) h in
-      let i = q.0 in
-      let j = q.1 in
-      let k = q.2 in
-      let m = q.3 in
-      let e = four_words ws l in
-      cc
-
-  pub row_other : (c : ℕ) → (c ≡ a → ⊥) → row_of with_row c ≡ row_of t c
-  row_other c ne =
-      let o = put_others t (4 * a) (get_or ws 0 0) (get_or ws 1 0) (get_or ws 2 0) (get_or ws 3 0) in
-      let i = o (4 * c) (λ e. omega arith) (λ e. omega arith) (λ e. omega arith) (λ e. omega arith) in
-      let j = o (4 * c + 1) (λ e. omega arith) (λ e. omega arith) (λ e. omega arith) (λ e. omega arith) in
-      let k = o (4 * c + 2) (λ e. omega arith) (λ e. omega arith) (λ e. omega arith) (λ e. omega arith) in
-      let m = o (4 * c + 3) (λ e. omega arith) (λ e. omega arith) (λ e. omega arith) (λ e. omega arith) in
-      cc
-
-pub nothing_fits : (q : ℕ) → get_or (0 ∷ 0 ∷ 0 ∷ 0 ∷ []) q 0 < 2 ^ 64
-nothing_fits q =
-    let zs : List ℕ = 0 ∷ 0 ∷ 0 ∷ 0 ∷ [] in
-    at_four (λ x. get_or zs x 0 < 2 ^ 64) (lit< tt) (lit< tt) (lit< tt) (lit< tt) (λ x h. omega (arith, get_or_past zs x 0 h)) q
 
 -- ---- numbers above 255
 
@@ -249,6 +188,13 @@ row_past t a l h k =
 
 -- ---- the numbers below n
 
+at_four : (P : ℕ → Type 0) → P 0 → P 1 → P 2 → P 3 → ((q : ℕ) → 4 ≤ q → P q) → (q : ℕ) → P q
+at_four P a b c d e zero = a
+at_four P a b c d e (suc zero) = b
+at_four P a b c d e (suc (suc zero)) = c
+at_four P a b c d e (suc (suc (suc zero))) = d
+at_four P a b c d e (suc (suc (suc (suc q)))) = e (suc (suc (suc (suc q)))) (omega arith)
+
 pub has_below_n : (n w0 w1 w2 w3 : ℕ) → ((i : ℕ) → i < 64 → bit w0 i ≡ ltb i n) → ((i : ℕ) → i < 64 → bit w1 i ≡ ltb i (n - 64))
     → ((i : ℕ) → i < 64 → bit w2 i ≡ ltb i (n - 128)) → ((i : ℕ) → i < 64 → bit w3 i ≡ ltb i (n - 192))
     → (k : ℕ) → has (w0 ∷ w1 ∷ w2 ∷ w3 ∷ []) k ≡ ltb k (min n 256)
@@ -265,9 +211,6 @@ has_below_n n w0 w1 w2 w3 e0 e1 e2 e3 k =
     (k / 64) refl
 
 -- ---- a table of zeros
-
-zero_at : (n i : ℕ) → ◌≡◌ {A = ℕ} (get_or (replicate n 0) i 0) 0
-zero_at n i = elim (cases_lt i n) [ inl h ↦ get_or-replicate n i 0 0 h | inr h ↦ get_or_past (replicate n 0) i 0 (omega (arith, length-replicate {A = ℕ} n 0)) ]
 
 pub table_nothing : (n a k : ℕ) → has (row_of (replicate n 0) a) k ≡ false
 table_nothing n a k = (λ i. has (zero_at n (4 * a) i ∷ zero_at n (4 * a + 1) i ∷ zero_at n (4 * a + 2) i ∷ zero_at n (4 * a + 3) i ∷ []) k) ∙ has_nothing k

@@ -1,6 +1,7 @@
 -- How many numbers below n a test passes.
-use Rattle.std.proofs.Common.{◌≡◌, ℕ, zero, suc, ◌+◌, ◌*◌, ◌/◌, ◌%◌, ◌^◌, ◌<◌, ◌≤◌, Bool, true, false, not, ◌&&◌, ◌||◌, eqb, List, get_or, sym, refl, ap, ◌∙◌, ap₂, inl, inr, add-zero, add-suc, pow-suc, one-add, arith}
+use Rattle.std.proofs.Common.{◌≡◌, ℕ, zero, suc, ◌+◌, ◌*◌, ◌/◌, ◌%◌, ◌^◌, ◌<◌, ◌≤◌, Bool, true, false, not, ◌&&◌, ◌||◌, eqb, List, [], ◌∷◌, length, get_or, sym, refl, ap, ◌∙◌, ap₂, inl, inr, add-zero, add-suc, pow-suc, one-add, arith}
 use lib.Count.{ones, ones_step}
+use Rattle.std.specs.List.{sum_by}
 use Rattle.rows.specs.Members.{bit, has}
 use Rattle.rows.proofs.Bit.{bit_first, bit_next}
 use Rattle.rows.proofs.Rows.{has_at}
@@ -124,9 +125,17 @@ size_bits (suc d) w h =
     digit (suc (suc x)) l = absurd (omega arith)
 
 -- the members of four words
-pub size_words : (ws : List ℕ) → ((q : ℕ) → get_or ws q 0 < 2 ^ 64) → size (has ws) 256 ≡ ones (get_or ws 0 0) + ones (get_or ws 1 0) + ones (get_or ws 2 0) + ones (get_or ws 3 0)
+four_parts : (ws : List ℕ) → ((q : ℕ) → get_or ws q 0 < 2 ^ 64) → size (has ws) 256 ≡ ones (get_or ws 0 0) + ones (get_or ws 1 0) + ones (get_or ws 2 0) + ones (get_or ws 3 0)
 unfolding has ones size
-size_words ws fit = size_split (has ws) 192 64 ∙ ap₂ ◌+◌ (size_split (has ws) 128 64 ∙ ap₂ ◌+◌ (size_split (has ws) 64 64 ∙ ap₂ ◌+◌ (part 0 (λ k l. has_at ws 0 k l)) (part 1 (λ k l. has_at ws 1 k l))) (part 2 (λ k l. has_at ws 2 k l))) (part 3 (λ k l. has_at ws 3 k l))
+four_parts ws fit = size_split (has ws) 192 64 ∙ ap₂ ◌+◌ (size_split (has ws) 128 64 ∙ ap₂ ◌+◌ (size_split (has ws) 64 64 ∙ ap₂ ◌+◌ (part 0 (λ k l. has_at ws 0 k l)) (part 1 (λ k l. has_at ws 1 k l))) (part 2 (λ k l. has_at ws 2 k l))) (part 3 (λ k l. has_at ws 3 k l))
   where
     part : (q : ℕ) → ((k : ℕ) → k < 64 → has ws (64 * q + k) ≡ bit (get_or ws q 0) k) → size (λ k. has ws (64 * q + k)) 64 ≡ ones (get_or ws q 0)
     part q e = size_same (λ k. has ws (64 * q + k)) (bit (get_or ws q 0)) 64 e ∙ size_bits 64 (get_or ws q 0) (fit q)
+
+pub size_words : (ws : List ℕ) → length ws ≡ 4 → ((q : ℕ) → get_or ws q 0 < 2 ^ 64) → sum_by ones ws ≡ size (has ws) 256
+size_words [] l fit = absurd (omega arith)
+size_words (a ∷ []) l fit = absurd (omega arith)
+size_words (a ∷ b ∷ []) l fit = absurd (omega arith)
+size_words (a ∷ b ∷ c ∷ []) l fit = absurd (omega arith)
+size_words (a ∷ b ∷ c ∷ d ∷ []) l fit = let e = four_parts (a ∷ b ∷ c ∷ d ∷ []) fit in omega arith
+size_words (a ∷ b ∷ c ∷ d ∷ e ∷ ws) l fit = absurd (omega arith)

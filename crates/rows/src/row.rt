@@ -1,12 +1,12 @@
 //! A set of the numbers 0 to 255, in four words of 64 bits. Each call costs a few operations on words.
-ghost use Rattle.std.specs.Prelude.{◌≡◌, ℕ, ◌<◌, ◌≤◌, min, true, false, not, ◌&&◌, ◌||◌, Decides, ◌==◌, count_ones, nat_lt};
+ghost use Rattle.std.specs.Prelude.{◌≡◌, ℕ, ◌<◌, ◌≤◌, min, true, false, not, ◌&&◌, ◌||◌, Decides, ◌==◌, count_ones, nat_lt, slice_index};
 ghost use Rattle.rows.specs.Counts.{size};
 ghost use Rattle.rows.specs.Members.{bit, member, First, Found};
 
 use crate::members::Members;
 
 /// A set of numbers below 256.
-#[derive(Clone, Copy)]
+#[derive(Clone, Copy, PartialEq, Eq, Debug)]
 pub struct Row {
     pub(crate) words: [u64; 4],
 }
@@ -72,40 +72,34 @@ impl Row {
     pub fn union(self, other: Row) -> Row
         ensures { (k : ℕ) → member result k ≡ (member self k || member other k) }
     {
-        Row {
-            words: [
-                self.words[0] | other.words[0],
-                self.words[1] | other.words[1],
-                self.words[2] | other.words[2],
-                self.words[3] | other.words[3],
-            ],
-        }
+        self.zip(other, |a, b| a | b)
     }
 
     /// The members of both.
     pub fn intersection(self, other: Row) -> Row
         ensures { (k : ℕ) → member result k ≡ (member self k && member other k) }
     {
-        Row {
-            words: [
-                self.words[0] & other.words[0],
-                self.words[1] & other.words[1],
-                self.words[2] & other.words[2],
-                self.words[3] & other.words[3],
-            ],
-        }
+        self.zip(other, |a, b| a & b)
     }
 
     /// The members that `other` lacks.
     pub fn difference(self, other: Row) -> Row
         ensures { (k : ℕ) → member result k ≡ (member self k && not (member other k)) }
     {
+        self.zip(other, |a, b| a & !b)
+    }
+
+    // The set whose words an operation makes of the words of both.
+    fn zip<F: Fn(u64, u64) -> u64>(self, other: Row, operation: F) -> Row
+        requires { F.IsAlwaysCallable operation }
+        ensures { (q : ℕ) → q < 4 → F.post operation (slice_index self.words q) (slice_index other.words q) (slice_index result.words q) }
+    {
         Row {
             words: [
-                self.words[0] & !other.words[0],
-                self.words[1] & !other.words[1],
-                self.words[2] & !other.words[2],
-                self.words[3] & !other.words[3],
+                operation(self.words[0], other.words[0]),
+                operation(self.words[1], other.words[1]),
+                operation(self.words[2], other.words[2]),
+                operation(self.words[3], other.words[3]),
             ],
         }
     }
@@ -114,27 +108,22 @@ impl Row {
     pub fn is_empty(self) -> bool
         ensures { Decides result ((k : ℕ) → member self k ≡ false) }
     {
-        self.words == [0; 4]
+        self.same(Row::empty())
     }
 
-    /// Whether both have the same members.
+    /// Whether both have the same members. It stands beside `==`, which speaks of words, because it promises it of members.
     pub fn same(self, other: Row) -> bool
         ensures { Decides result ((k : ℕ) → member self k ≡ member other k) }
     {
-        self.words == other.words
+        self == other
     }
 
     /// The smallest member.
     pub fn first(self) -> Option<usize>
         ensures { First (member self) result }
     {
-        for i in 0..4 {
-            let word = self.words[i];
-            if word != 0 {
-                return Some(64 * i + word.trailing_zeros() as usize);
-            }
-        }
-        None
+        let i = self.words.iter().position(|word| *word != 0)?;
+        Some(64 * i + self.words[i].trailing_zeros() as usize)
     }
 
     /// The members, the smallest first.
@@ -176,10 +165,7 @@ impl Row {
     pub fn count(self) -> usize
         ensures { result ≡ size (member self) 256 }
     {
-        ones_in(self.words[0])
-            + ones_in(self.words[1])
-            + ones_in(self.words[2])
-            + ones_in(self.words[3])
+        self.words.iter().map(|word| ones_in(*word)).sum()
     }
 }
 

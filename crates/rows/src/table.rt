@@ -23,18 +23,11 @@ impl Table<'_> {
     pub fn row(self, a: usize) -> Row
         ensures { (b : ℕ) → member result b ≡ related self.entry.words.now a b }
     {
+        let mut row = Row::empty();
         if a < 256 {
-            Row {
-                words: [
-                    self.words[4 * a],
-                    self.words[4 * a + 1],
-                    self.words[4 * a + 2],
-                    self.words[4 * a + 3],
-                ],
-            }
-        } else {
-            Row::empty()
+            row.words.copy_from_slice(&self.words[4 * a..4 * a + 4]);
         }
+        row
     }
 }
 
@@ -47,10 +40,7 @@ pub fn put_row(table: &mut [u64], a: usize, row: Row)
     ensures unfit { length table.old ≢ 1024 → table.new ≡ table.old }
 {
     if table.len() == 1024 && a < 256 {
-        table[4 * a] = row.words[0];
-        table[4 * a + 1] = row.words[1];
-        table[4 * a + 2] = row.words[2];
-        table[4 * a + 3] = row.words[3];
+        table[4 * a..4 * a + 4].copy_from_slice(&row.words);
     }
 }
 
@@ -59,7 +49,5 @@ pub fn clear(table: &mut [u64])
     ensures words { table.new ≡ replicate (length table.old) 0 }
     ensures pairs { (a b : ℕ) → related table.new a b ≡ false }
 {
-    for word in table.iter_mut() {
-        *word = 0;
-    }
+    table.fill(0);
 }
