@@ -2,17 +2,20 @@
 ghost use Rattle.std.specs.Prelude.{◌≡◌};
 ghost use Rattle.judgement.specs.Numbers.{refusal_number};
 
+use std::error::Error;
+use std::fmt;
+
 /// The grounds on which the calls refuse, each with a fixed number.
 #[derive(Clone, Copy, PartialEq, Eq, Debug)]
 pub enum Refusal {
     /// 2: a station that is not below the count of stations.
-    NoSuchStation,
+    NoSuchStation = 2,
     /// 7: the number names no read.
-    NotARead,
+    NotARead = 7,
     /// 8: a table or the buffer has another length.
-    WrongLength,
+    WrongLength = 8,
     /// 17: the recording is not explained, so there is no order.
-    NotExplained,
+    NotExplained = 17,
 }
 
 impl Refusal {
@@ -20,11 +23,19 @@ impl Refusal {
     pub fn number(self) -> u8
         ensures { result ≡ refusal_number self }
     {
-        match self {
-            Refusal::NoSuchStation => 2,
-            Refusal::NotARead => 7,
-            Refusal::WrongLength => 8,
-            Refusal::NotExplained => 17,
-        }
+        self as u8
     }
 }
+
+impl fmt::Display for Refusal {
+    fn fmt<W: fmt::Write>(&self, f: &mut fmt::Formatter<W>) -> fmt::Result {
+        f.write_str(match self {
+            Refusal::NoSuchStation => "there is no such station",
+            Refusal::NotARead => "the number names no read",
+            Refusal::WrongLength => "a table or the buffer has another length",
+            Refusal::NotExplained => "the recording is not explained",
+        })
+    }
+}
+
+impl Error for Refusal {}

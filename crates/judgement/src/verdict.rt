@@ -2,25 +2,28 @@
 ghost use Rattle.std.specs.Prelude.{◌≡◌};
 ghost use Rattle.judgement.specs.Numbers.{violation_number, finding_number};
 
+use std::error::Error;
+use std::fmt;
+
 mod making;
 
 /// What can stand against a recording, each with a fixed number. A judgement names the first that holds.
 #[derive(Clone, Copy, PartialEq, Eq, Debug)]
 pub enum Violation {
     /// 1: a read with a value other than 0 has no source.
-    ThinAir,
+    ThinAir = 1,
     /// 2: the least visibility has a cycle.
-    BadVisibility,
+    BadVisibility = 2,
     /// 3: a read of 0 sees a write of its register.
-    BadInitRead,
+    BadInitRead = 3,
     /// 4: a read sees another write of its register, to which steps between writes lead from its source.
-    BadRead,
+    BadRead = 4,
     /// 5: what every order has to keep for the sake of all reads has a cycle.
-    BadArb,
+    BadArb = 5,
     /// 6: a write of its register has happened before a read of 0, for the last operation of its station.
-    HbInitRead,
+    HbInitRead = 6,
     /// 7: another write of its register has happened before a read and after its source, for the last operation of its station.
-    CyclicHb,
+    CyclicHb = 7,
 }
 
 /// What a judgement says.
@@ -41,17 +44,25 @@ impl Violation {
     pub fn number(self) -> u8
         ensures { result ≡ violation_number self }
     {
-        match self {
-            Violation::ThinAir => 1,
-            Violation::BadVisibility => 2,
-            Violation::BadInitRead => 3,
-            Violation::BadRead => 4,
-            Violation::BadArb => 5,
-            Violation::HbInitRead => 6,
-            Violation::CyclicHb => 7,
-        }
+        self as u8
     }
 }
+
+impl fmt::Display for Violation {
+    fn fmt<W: fmt::Write>(&self, f: &mut fmt::Formatter<W>) -> fmt::Result {
+        f.write_str(match self {
+            Violation::ThinAir => "thinair",
+            Violation::BadVisibility => "badvisibility",
+            Violation::BadInitRead => "badinitread",
+            Violation::BadRead => "badread",
+            Violation::BadArb => "badarb",
+            Violation::HbInitRead => "hbinitread",
+            Violation::CyclicHb => "cyclichb",
+        })
+    }
+}
+
+impl Error for Violation {}
 
 impl Verdict {
     /// The fixed number of the violation, or 0 for explained.

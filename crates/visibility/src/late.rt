@@ -18,10 +18,10 @@ pub struct Late {
 }
 
 /// Why a late rule is refused.
-#[derive(Clone, Copy)]
+#[derive(Clone, Copy, PartialEq, Eq, Debug)]
 pub enum LateRefusal {
     /// 16: a distance of 0 or above 255.
-    Distance,
+    Distance = 16,
 }
 
 impl Rule for Late {

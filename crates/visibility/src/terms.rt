@@ -24,7 +24,7 @@ pub struct TermList {
 }
 
 /// A spelling that no term list has.
-#[derive(Clone, Copy)]
+#[derive(Clone, Copy, PartialEq, Eq, Debug)]
 pub struct Misspelled {
     /// Of the first byte after which no lawful spelling is possible, or the length, if it ends too early.
     pub place: usize,

@@ -2,21 +2,24 @@
 ghost use Rattle.std.specs.Prelude.{◌≡◌};
 ghost use Rattle.words.specs.Faults.{number_of};
 
+use std::error::Error;
+use std::fmt;
+
 /// The grounds on which a reader refuses, each with a fixed number.
 #[derive(Clone, Copy, PartialEq, Eq, Debug)]
 pub enum Fault {
     /// 9: the words do not begin with an opening.
-    NotAnOpening,
+    NotAnOpening = 9,
     /// 10: a second opening, or a bit that has to be 0 is set.
-    OutOfForm,
+    OutOfForm = 10,
     /// 11: the text of a note runs past the end.
-    NoteTooLong,
+    NoteTooLong = 11,
     /// 12: a closing with a wrong count of operations.
-    WrongCount,
+    WrongCount = 12,
     /// 13: the words end before a closing.
-    Unclosed,
+    Unclosed = 13,
     /// 14: a word after the closing.
-    AfterClosing,
+    AfterClosing = 14,
 }
 
 impl Fault {
@@ -24,16 +27,24 @@ impl Fault {
     pub fn number(self) -> u8
         ensures { result ≡ number_of self }
     {
-        match self {
-            Fault::NotAnOpening => 9,
-            Fault::OutOfForm => 10,
-            Fault::NoteTooLong => 11,
-            Fault::WrongCount => 12,
-            Fault::Unclosed => 13,
-            Fault::AfterClosing => 14,
-        }
+        self as u8
     }
 }
+
+impl fmt::Display for Fault {
+    fn fmt<W: fmt::Write>(&self, f: &mut fmt::Formatter<W>) -> fmt::Result {
+        f.write_str(match self {
+            Fault::NotAnOpening => "the words do not begin with an opening",
+            Fault::OutOfForm => "a second opening, or a bit that has to be 0 is set",
+            Fault::NoteTooLong => "the text of a note runs past the end",
+            Fault::WrongCount => "the closing has a wrong count of operations",
+            Fault::Unclosed => "the words end before a closing",
+            Fault::AfterClosing => "a word stands after the closing",
+        })
+    }
+}
+
+impl Error for Fault {}
 
 /// A fault, and its place: that of the record's first word, or the count of words if there is none.
 #[derive(Clone, Copy, PartialEq, Eq, Debug)]
@@ -41,3 +52,11 @@ pub struct Misread {
     pub fault: Fault,
     pub place: usize,
 }
+
+impl fmt::Display for Misread {
+    fn fmt<W: fmt::Write>(&self, f: &mut fmt::Formatter<W>) -> fmt::Result {
+        write!(f, "{} at word {}", self.fault, self.place)
+    }
+}
+
+impl Error for Misread {}

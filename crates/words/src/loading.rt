@@ -8,6 +8,8 @@ use crate::fault::Misread;
 use crate::reader::Reader;
 use crate::record::Record;
 use recording::{Recording, Refusal};
+use std::error::Error;
+use std::fmt;
 
 // The most words that a load takes.
 const MOST_WORDS: usize = 1024;
@@ -57,6 +59,18 @@ impl LoadRefusal {
         }
     }
 }
+
+impl fmt::Display for LoadRefusal {
+    fn fmt<W: fmt::Write>(&self, f: &mut fmt::Formatter<W>) -> fmt::Result {
+        match self {
+            LoadRefusal::TooLong => write!(f, "the words are at most {MOST_WORDS}"),
+            LoadRefusal::Reader(misread) => write!(f, "{misread}"),
+            LoadRefusal::Recording { refusal, place } => write!(f, "{refusal} at word {place}"),
+        }
+    }
+}
+
+impl Error for LoadRefusal {}
 
 /// Tells the recording the opening and each operation of the words, and answers the count of operations.
 /// After a refusal the recording has what was told before the fault.

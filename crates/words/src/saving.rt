@@ -5,12 +5,14 @@ ghost use Rattle.words.specs.Saving.{opening_word, operation_word, closing_word,
 
 use crate::loading::load;
 use recording::{Kind, Operation, Recording};
+use std::error::Error;
+use std::fmt;
 
 /// Why a save is refused.
 #[derive(Clone, Copy, PartialEq, Eq, Debug)]
 pub enum SaveRefusal {
     /// 8: fewer words than operations plus 2.
-    TooShort,
+    TooShort = 8,
 }
 
 impl SaveRefusal {
@@ -18,11 +20,19 @@ impl SaveRefusal {
     pub fn number(self) -> u8
         ensures { result ≡ number_of self }
     {
-        match self {
-            SaveRefusal::TooShort => 8,
-        }
+        self as u8
     }
 }
+
+impl fmt::Display for SaveRefusal {
+    fn fmt<W: fmt::Write>(&self, f: &mut fmt::Formatter<W>) -> fmt::Result {
+        f.write_str(match self {
+            SaveRefusal::TooShort => "the words are fewer than the operations and 2",
+        })
+    }
+}
+
+impl Error for SaveRefusal {}
 
 /// Writes opening, operations and closing to the front of `words`, and answers how many words these are.
 pub fn save(recording: &Recording, words: &mut [u32]) -> Result<usize, SaveRefusal>

@@ -3,6 +3,8 @@ ghost use Rattle.std.specs.Prelude.{◌≡◌};
 ghost use Rattle.visibility.specs.Late.{LateAnswer, number_of};
 
 use crate::late::{Late, LateRefusal};
+use std::error::Error;
+use std::fmt;
 
 impl Late {
     /// The late rule with a distance. Refuses by 16.
@@ -23,8 +25,16 @@ impl LateRefusal {
     pub fn number(self) -> u8
         ensures { result ≡ number_of self }
     {
-        match self {
-            LateRefusal::Distance => 16,
-        }
+        self as u8
     }
 }
+
+impl fmt::Display for LateRefusal {
+    fn fmt<W: fmt::Write>(&self, f: &mut fmt::Formatter<W>) -> fmt::Result {
+        f.write_str(match self {
+            LateRefusal::Distance => "a distance is 1 to 255",
+        })
+    }
+}
+
+impl Error for LateRefusal {}

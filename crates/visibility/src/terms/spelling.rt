@@ -5,6 +5,8 @@ ghost use Rattle.visibility.specs.Reading.{SpellingAnswer};
 
 use crate::draft::Draft;
 use crate::terms::{Misspelled, TermList};
+use std::error::Error;
+use std::fmt;
 
 impl TermList {
     /// The term list that the bytes spell: letters s and v, terms parted by one comma. Refuses by 15.
@@ -32,6 +34,14 @@ impl Misspelled {
         15
     }
 }
+
+impl fmt::Display for Misspelled {
+    fn fmt<W: fmt::Write>(&self, f: &mut fmt::Formatter<W>) -> fmt::Result {
+        f.write_str("up to eight terms of one to four letters s and v, parted by one comma")
+    }
+}
+
+impl Error for Misspelled {}
 
 // The terms of a draft, unless it waits for a letter after a comma.
 fn finished(draft: &Draft) -> Option<TermList>
