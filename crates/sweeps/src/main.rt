@@ -31,12 +31,9 @@ fn put_sources(recording: &Recording, words: &mut [u64]) {
 
 // How many sweeps it takes until one finds nothing new.
 fn count_sweeps<R: Rule>(rule: &R, outline: &Outline, words: &mut [u64]) -> usize {
-    for sweeps in 1..65537 {
-        if !sweep(rule, outline, words) {
-            return sweeps;
-        }
-    }
-    65537
+    (1..65537)
+        .find(|_| !sweep(rule, outline, words))
+        .unwrap_or(65537)
 }
 
 // Grows the visibility under a rule, and prints what it cost.
@@ -58,9 +55,10 @@ fn print_growth<R: Rule>(
 }
 
 fn print_growths<R: Rule>(rt: &HostRuntime, name: &str, rule: &R) -> io::Result<()> {
-    print_growth(rt, name, rule, 64)?;
-    print_growth(rt, name, rule, 128)?;
-    print_growth(rt, name, rule, 256)
+    for operations in [64, 128, 256] {
+        print_growth(rt, name, rule, operations)?;
+    }
+    Ok(())
 }
 
 fn main(rt: HostRuntime) -> io::Result<()> {
