@@ -1,89 +1,106 @@
 //! Session judgement by trying every listing.
-use crate::seeing::{Law, Pairs, is_acyclic, least};
-use crate::small::Small;
+use crate::pairs::Pairs;
+use crate::seeing::{is_causal, least};
+use recording::{Kind, Operation, Recording};
+use std::array;
+
+// The search for a listing for an operation of that station.
+#[derive(Clone, Copy)]
+struct Search<'a> {
+    recording: &'a Recording,
+    seen: &'a Pairs,
+    station: u8,
+}
+
+// What is left to list, and the values that what is listed left in the registers.
+#[derive(Clone, Copy)]
+struct State {
+    left: [bool; 16],
+    values: [u32; 64],
+}
 
 /// Whether every operation has a listing, under the smallest causal order.
-pub fn try_listings(small: &Small) -> bool {
-    let seen = least(small, Law::Causal);
-    if !is_acyclic(small, &seen) {
-        return false;
-    }
-    for last in 0..small.count {
-        let past = past_of(small, &seen, last);
-        if !lists(small, &seen, past, last, [false; 16], [0; 64], small.count) {
+pub fn try_listings(recording: &Recording) -> bool {
+    let seen = least(recording, is_causal);
+    seen.is_acyclic() && (0..recording.count()).all(|last| has_listing(recording, &seen, last))
+}
+
+// Whether the operation, and all that it sees, can be listed.
+fn has_listing(recording: &Recording, seen: &Pairs, last: usize) -> bool {
+    recording.operation(last).is_some_and(|operation| {
+        let search = Search {
+            recording,
+            seen,
+            station: operation.station,
+        };
+        let state = State {
+            left: array::from_fn(|a| a == last || seen.has(a, last)),
+            values: [0; 64],
+        };
+        search.lists(state, 16)
+    })
+}
+
+impl Search<'_> {
+    // Whether what is left can be listed, in at most so many steps.
+    fn lists(self, state: State, steps: usize) -> bool {
+        if state.left == [false; 16] {
+            return true;
+        }
+        if steps == 0 {
             return false;
         }
-    }
-    true
-}
-
-// The operation, and all that it sees.
-fn past_of(small: &Small, seen: &Pairs, last: usize) -> [bool; 16] {
-    let mut past = [false; 16];
-    for a in 0..small.count {
-        past[a] = a == last || (last < 16 && seen[a][last]);
-    }
-    past
-}
-
-// Whether what is left of the past can be listed, after what is listed left these values in the registers.
-fn lists(
-    small: &Small,
-    seen: &Pairs,
-    past: [bool; 16],
-    last: usize,
-    listed: [bool; 16],
-    values: [u32; 64],
-    left: usize,
-) -> bool {
-    if is_done(small, &past, &listed) {
-        return true;
-    }
-    if left == 0 {
-        return false;
-    }
-    for a in 0..small.count {
-        if past[a] && !listed[a] && is_free(small, seen, &past, &listed, a) {
-            let item = small.item(a);
-            let register = item.register as usize % 64;
-            let mut more = listed;
-            more[a] = true;
-            let mut then = values;
-            if item.writes {
-                then[register] = item.value;
-            }
-            if comes_right(small, last, a, values[register])
-                && lists(small, seen, past, last, more, then, left - 1)
-            {
+        for next in (0..16).filter_map(|a| self.listed(state, a)) {
+            if self.lists(next, steps - 1) {
                 return true;
             }
         }
+        false
     }
-    false
-}
 
-// Whether all of the past is listed.
-fn is_done(small: &Small, past: &[bool; 16], listed: &[bool; 16]) -> bool {
-    for a in 0..small.count {
-        if past[a] && !listed[a] {
-            return false;
+    // The state after `a`, if it is left and may be listed next.
+    fn listed(self, state: State, a: usize) -> Option<State> {
+        let operation = self.recording.operation(a)?;
+        if state.is_free(self.seen, a) && self.comes_right(operation, state) {
+            Some(state.after(a, operation))
+        } else {
+            None
         }
     }
-    true
-}
 
-// Whether all of the past that comes before `a` is listed.
-fn is_free(small: &Small, seen: &Pairs, past: &[bool; 16], listed: &[bool; 16], a: usize) -> bool {
-    for b in 0..small.count {
-        if a < 16 && past[b] && !listed[b] && seen[b][a] {
-            return false;
-        }
+    // Whether an operation may come next: a read of the station has to have the value of its register.
+    fn comes_right(self, operation: Operation, state: State) -> bool {
+        operation.kind == Kind::Write
+            || operation.station != self.station
+            || operation.value == state.value(operation.register)
     }
-    true
 }
 
-// Whether `a` may follow what left that value in its register: a read of the station of `last` has to have it.
-fn comes_right(small: &Small, last: usize, a: usize, value: u32) -> bool {
-    let item = small.item(a);
-    item.writes || item.station != small.item(last).station || item.value == value
+impl State {
+    // Whether `a` is left, and nothing that is left comes before it.
+    fn is_free(&self, seen: &Pairs, a: usize) -> bool {
+        a < 16
+            && self.left[a]
+            && !self
+                .left
+                .iter()
+                .enumerate()
+                .any(|(b, is_left)| *is_left && seen.has(b, a))
+    }
+
+    // The value that is in a register.
+    fn value(&self, register: u8) -> u32 {
+        self.values[register as usize % 64]
+    }
+
+    // The state after `a`, which is that operation.
+    fn after(mut self, a: usize, operation: Operation) -> State {
+        if a < 16 {
+            self.left[a] = false;
+        }
+        if operation.kind == Kind::Write {
+            self.values[operation.register as usize % 64] = operation.value;
+        }
+        self
+    }
 }

@@ -2,37 +2,27 @@
 #![tactic(auto)]
 
 mod dice;
+mod lent;
 mod listing;
 mod making;
 mod ordering;
+mod pairs;
 mod seeing;
-mod small;
 mod tally;
 
 use dice::Dice;
-use judgement::{judge_own, judge_session, judge_shared};
+use lent::Lent;
 use listing::try_listings;
 use making::make;
 use ordering::try_orders;
+use pairs::Pairs;
 use recording::Recording;
-use seeing::Law;
-use small::Small;
+use seeing::{is_causal, is_late, walks};
 use std::io;
 use tally::Tally;
 use visibility::{Causal, Late, Rule, TermList};
 
 const RECORDINGS: u32 = 3000;
-
-const NAMES: [&str; 8] = [
-    "explained",
-    "thinair",
-    "badvisibility",
-    "badinitread",
-    "badread",
-    "badarb",
-    "hbinitread",
-    "cyclichb",
-];
 
 // What came of each judgement.
 #[derive(Clone, Copy)]
@@ -42,89 +32,92 @@ struct Tallies {
     session: Tally,
 }
 
-// Judges a recording under a rule, and by the second checker under the law that the rule stands for.
-fn compare<R: Rule>(recording: &Recording, rule: &R, law: Law, tallies: &mut Tallies) {
-    let tried = try_orders(&Small::of(recording), law);
-    let mut seen = [0; 1024];
-    let mut working = [0; 1024];
-    let mut evidence = [0; 256];
-    if let Ok(verdict) = judge_own(recording, rule, &mut seen, &mut working, &mut evidence) {
-        tallies.own.note(verdict.number(), tried.own);
+impl Tallies {
+    // No verdict yet.
+    fn new() -> Tallies {
+        Tallies {
+            own: Tally::new(),
+            shared: Tally::new(),
+            session: Tally::new(),
+        }
     }
-    if let Ok(verdict) = judge_shared(recording, rule, &mut seen, &mut working, &mut evidence) {
-        tallies.shared.note(verdict.number(), tried.shared);
-    }
-}
 
-// The session judgement likewise.
-fn compare_sessions(recording: &Recording, tallies: &mut Tallies) {
-    let explained = try_listings(&Small::of(recording));
-    let mut seen = [0; 1024];
-    let mut working = [0; 1024];
-    let mut evidence = [0; 256];
-    if let Ok(verdict) = judge_session(recording, &mut seen, &mut working, &mut evidence) {
-        tallies.session.note(verdict.number(), explained);
+    // Judges a recording under a rule, and by the second checker under what the rule demands.
+    fn compare<R: Rule, F: Fn(&Recording, &Pairs, usize, usize) -> bool>(
+        &mut self,
+        recording: &Recording,
+        rule: &R,
+        demands: F,
+    )
+        requires { F.IsAlwaysCallable demands }
+    {
+        let tried = try_orders(recording, demands);
+        let mut lent = Lent::new();
+        if let Ok(verdict) = lent.own(recording, rule) {
+            self.own.note(verdict.violation, tried.own);
+        }
+        if let Ok(verdict) = lent.shared(recording, rule) {
+            self.shared.note(verdict.violation, tried.shared);
+        }
     }
-}
 
-// Under a term list.
-fn compare_terms(
-    recording: &Recording,
-    spelling: &[u8],
-    terms: &'static [&'static [u8]],
-    tallies: &mut Tallies,
-) {
-    if let Ok(rule) = TermList::spelled(spelling) {
-        compare(recording, &rule, Law::Terms(terms), tallies);
+    // The session judgement likewise.
+    fn compare_sessions(&mut self, recording: &Recording) {
+        let explained = try_listings(recording);
+        if let Ok(verdict) = Lent::new().session(recording) {
+            self.session.note(verdict.violation, explained);
+        }
     }
-}
 
-// Under a late rule.
-fn compare_late(recording: &Recording, distance: u32, tallies: &mut Tallies) {
-    if let Ok(rule) = Late::new(distance) {
-        compare(recording, &rule, Law::Late(distance as usize), tallies);
+    // Under a term list, as it is spelled and as its terms.
+    fn compare_terms(&mut self, recording: &Recording, spelling: &[u8], terms: &[&[u8]]) {
+        if let Ok(rule) = TermList::spelled(spelling) {
+            self.compare(recording, &rule, |recording, seen, a, b| {
+                terms.iter().any(|term| walks(recording, seen, term, a, b))
+            });
+        }
     }
-}
 
-// One recording under every rule.
-fn compare_all(recording: &Recording, tallies: &mut Tallies) {
-    compare(recording, &Causal, Law::Causal, tallies);
-    compare_terms(recording, b"", &[], tallies);
-    compare_terms(recording, b"vs", &[b"vs"], tallies);
-    compare_terms(recording, b"s,vs,sv", &[b"s", b"vs", b"sv"], tallies);
-    compare_late(recording, 1, tallies);
-    compare_late(recording, 2, tallies);
-    compare_sessions(recording, tallies);
+    // Under a late rule.
+    fn compare_late(&mut self, recording: &Recording, distance: u32) {
+        if let Ok(rule) = Late::new(distance) {
+            self.compare(recording, &rule, |recording, _, a, b| {
+                is_late(recording, distance as usize, a, b)
+            });
+        }
+    }
+
+    // One recording under every rule.
+    fn compare_all(&mut self, recording: &Recording) {
+        self.compare(recording, &Causal, is_causal);
+        self.compare_terms(recording, b"", &[]);
+        self.compare_terms(recording, b"vs", &[b"vs"]);
+        self.compare_terms(recording, b"s,vs,sv", &[b"s", b"vs", b"sv"]);
+        self.compare_late(recording, 1);
+        self.compare_late(recording, 2);
+        self.compare_sessions(recording);
+    }
 }
 
 // How often each verdict of a judgement came, and whether the second checker ever disagreed.
 fn print_tally(rt: &HostRuntime, name: &str, tally: Tally) -> io::Result<()> {
     print!(rt; "{name}:")?;
-    for number in 0..8 {
-        let count = tally.count(number);
-        if count > 0 {
-            let verdict = NAMES[number];
-            print!(rt; " {verdict} {count}")?;
+    for count in &tally.counts {
+        if count.times > 0 {
+            print!(rt; " {} {}", count.name(), count.times)?;
         }
     }
     println!(rt; "")?;
-    let disagreed = tally.disagreed;
-    println!(rt; "disagreed: {disagreed}")
+    println!(rt; "disagreed: {}", tally.disagreed)
 }
 
 fn run(rt: &HostRuntime) -> anyhow::Result<()> {
-    let mut tallies = Tallies {
-        own: Tally::new(),
-        shared: Tally::new(),
-        session: Tally::new(),
-    };
+    let mut tallies = Tallies::new();
     let mut dice = Dice::new(1);
     for _ in 0..RECORDINGS {
-        let recording = make(&mut dice);
-        compare_all(&recording, &mut tallies);
+        tallies.compare_all(&make(&mut dice));
     }
-    let recordings = RECORDINGS;
-    println!(rt; "{recordings} recordings")?;
+    println!(rt; "{RECORDINGS} recordings")?;
     print_tally(rt, "own", tallies.own)?;
     print_tally(rt, "shared", tallies.shared)?;
     print_tally(rt, "session", tallies.session)?;

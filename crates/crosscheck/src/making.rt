@@ -1,16 +1,38 @@
 //! Makes small recordings: thrown ones, and ones that are much like a recording with a rare violation.
 use crate::dice::Dice;
+use recording::Kind::{self, Read, Write};
 use recording::Recording;
 
-// Each operation as a text: its station, `w` or `r`, its register and its value, one digit each.
-const BADARB: &[&[u8]] = &[b"0w11", b"0r12", b"1w12", b"1r11"];
+// An operation: its station, whether it writes or reads, its register and its value.
+type Told = (u32, Kind, u32, u32);
 
-const HBINITREAD: &[&[u8]] = &[
-    b"0w31", b"0w11", b"2w12", b"1r12", b"1r30", b"1r11", b"1r12",
+const BADARB: &[Told] = &[
+    (0, Write, 1, 1),
+    (0, Read, 1, 2),
+    (1, Write, 1, 2),
+    (1, Read, 1, 1),
 ];
 
-const CYCLICHB: &[&[u8]] = &[
-    b"2w39", b"0r39", b"0w31", b"0w11", b"0w21", b"1w12", b"1r39", b"1r21", b"1r12",
+const HBINITREAD: &[Told] = &[
+    (0, Write, 3, 1),
+    (0, Write, 1, 1),
+    (2, Write, 1, 2),
+    (1, Read, 1, 2),
+    (1, Read, 3, 0),
+    (1, Read, 1, 1),
+    (1, Read, 1, 2),
+];
+
+const CYCLICHB: &[Told] = &[
+    (2, Write, 3, 9),
+    (0, Read, 3, 9),
+    (0, Write, 3, 1),
+    (0, Write, 1, 1),
+    (0, Write, 2, 1),
+    (1, Write, 1, 2),
+    (1, Read, 3, 9),
+    (1, Read, 2, 1),
+    (1, Read, 1, 2),
 ];
 
 /// The next recording: four stations, at most six writes, and at most twelve operations.
@@ -30,33 +52,26 @@ pub fn make(dice: &mut Dice) -> Recording {
 }
 
 // Tells the operations of a pattern, of which now and then one is left out, on other stations and registers; then some more.
-fn follow(recording: &mut Recording, dice: &mut Dice, pattern: &[&[u8]]) {
+fn follow(recording: &mut Recording, dice: &mut Dice, pattern: &[Told]) {
     let turn = dice.below(4);
-    for text in pattern {
+    for (station, kind, register, value) in pattern {
         if dice.below(16) > 0 {
-            if let [station, kind, register, value] = *text {
-                let station = digit(*station).saturating_add(turn) % 4;
-                let register = digit(*register).saturating_add(turn);
-                tell(recording, *kind == b'w', station, register, digit(*value));
-            }
+            let station = station.saturating_add(turn) % 4;
+            let register = register.saturating_add(turn);
+            tell(recording, (station, *kind, register, *value));
         }
     }
     let more = dice.below(2);
     throw(recording, dice, more);
 }
 
-// The number that a digit stands for.
-fn digit(byte: u8) -> u32 {
-    byte.saturating_sub(b'0') as u32 % 10
-}
-
 // Tells a write or a read.
-fn tell(recording: &mut Recording, writes: bool, station: u32, register: u32, value: u32) {
-    if writes {
-        let _ = recording.write(station, register, value);
-    } else {
-        let _ = recording.read(station, register, value);
-    }
+fn tell(recording: &mut Recording, operation: Told) {
+    let (station, kind, register, value) = operation;
+    let _ = match kind {
+        Write => recording.write(station, register, value),
+        Read => recording.read(station, register, value),
+    };
 }
 
 // Tells some operations: reads of right, stale, future and zero values, and at most six writes.
@@ -71,10 +86,10 @@ fn throw(recording: &mut Recording, dice: &mut Dice, operations: u32) {
         if writes < 6 && dice.below(2) == 0 {
             writes = writes.saturating_add(1);
             written[place] = written[place].saturating_add(1);
-            tell(recording, true, station, register, written[place]);
+            tell(recording, (station, Write, register, written[place]));
         } else {
             let value = thrown_value(dice, written[place]);
-            tell(recording, false, station, register, value);
+            tell(recording, (station, Read, register, value));
         }
     }
 }

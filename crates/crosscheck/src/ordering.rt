@@ -1,8 +1,8 @@
 //! Own and shared judgement by trying every order of the writes.
-ghost use Rattle.std.specs.Prelude.{◌≤◌};
-
-use crate::seeing::{Law, Pairs, is_acyclic, least};
-use crate::small::Small;
+use crate::pairs::Pairs;
+use crate::seeing::least;
+use arrayvec::ArrayVec;
+use recording::{Kind, Recording};
 
 /// What every order tells: whether each read has one, and whether one serves all.
 #[derive(Clone, Copy)]
@@ -11,133 +11,83 @@ pub struct Tried {
     pub shared: bool,
 }
 
-// At most six writes.
-#[derive(Clone, Copy)]
-struct Writes {
-    count: usize,
-    numbers: [usize; 6],
-    ghost few: { count ≤ 6 },
+/// Tries every order of the writes under the least visibility that holds what is demanded.
+pub fn try_orders<F: Fn(&Recording, &Pairs, usize, usize) -> bool>(
+    recording: &Recording,
+    demands: F,
+) -> Tried
+    requires { F.IsAlwaysCallable demands }
+{
+    let seen = least(recording, demands);
+    let serves = |order: &[usize], read: usize| has_its_value(recording, &seen, order, read);
+    Tried {
+        own: seen.is_acyclic()
+            && (0..recording.count()).all(|read| {
+                some_order(recording, &seen, |order| serves(order, read))
+            }),
+        shared: seen.is_acyclic()
+            && some_order(recording, &seen, |order| {
+                (0..recording.count()).all(|read| serves(order, read))
+            }),
+    }
 }
 
-/// Tries every order of the writes under the least visibility of a law.
-pub fn try_orders(small: &Small, law: Law) -> Tried {
-    let seen = least(small, law);
-    let mut tried = Tried {
-        own: false,
-        shared: false,
-    };
-    if !is_acyclic(small, &seen) {
-        return tried;
-    }
-    let writes = writes_of(small);
-    let mut served = [false; 16];
-    for code in 0..factorial(writes.count) {
-        let order = order_of(code, writes);
-        if keeps(&seen, order) {
-            tried.shared |= serve(small, &seen, order, &mut served);
-        }
-    }
-    tried.own = all_served(small, &served);
-    tried
+// Whether some order of the writes keeps what is seen and passes a test.
+fn some_order<F: Fn(&[usize]) -> bool>(recording: &Recording, seen: &Pairs, test: F) -> bool
+    requires { F.IsAlwaysCallable test }
+{
+    let count = writes_of(recording).len();
+    (0..factorial(count)).any(|code| {
+        let order = order_of(code, writes_of(recording));
+        keeps(seen, &order) && test(&order)
+    })
 }
 
-// The writes.
-fn writes_of(small: &Small) -> Writes {
-    let mut numbers = [0; 6];
-    let mut count = 0;
-    for number in 0..small.count {
-        if small.items[number].writes && count < 6 {
-            numbers[count] = number;
-            count += 1;
-        }
-    }
-    Writes { count, numbers }
+// The writes, of which a made recording has at most six.
+fn writes_of(recording: &Recording) -> ArrayVec<usize, 6> {
+    let mut writes = ArrayVec::new();
+    let _ = writes.extend((0..recording.count()).filter(|number| is_write(recording, *number)));
+    writes
 }
 
-// How many orders there are.
+// Whether the operation of that number is a write.
+fn is_write(recording: &Recording, number: usize) -> bool {
+    recording
+        .operation(number)
+        .is_some_and(|operation| operation.kind == Kind::Write)
+}
+
+// How many orders of so many writes there are.
 fn factorial(count: usize) -> usize {
-    match count {
-        0 | 1 => 1,
-        2 => 2,
-        3 => 6,
-        4 => 24,
-        5 => 120,
-        _ => 720,
-    }
+    (1..=count).fold(1, usize::saturating_mul)
 }
 
 // The order of a code: its digits, in bases that fall by one, say which of the writes that are left comes next.
-fn order_of(code: usize, writes: Writes) -> Writes {
-    let mut numbers = writes.numbers;
+fn order_of(code: usize, mut writes: ArrayVec<usize, 6>) -> ArrayVec<usize, 6> {
     let mut rest = code;
-    for place in 0..writes.count {
-        let left = writes.count - place;
-        let pick = place + rest % left;
+    for place in 0..writes.len() {
+        let left = writes.len() - place;
+        writes.swap(place, place + rest % left);
         rest /= left;
-        let number = numbers[pick];
-        numbers[pick] = numbers[place];
-        numbers[place] = number;
     }
-    Writes {
-        count: writes.count,
-        numbers,
-    }
+    writes
 }
 
 // Whether `a` comes before `b` wherever `b` sees `a`.
-fn keeps(seen: &Pairs, order: Writes) -> bool {
-    for i in 0..order.count {
-        for j in 0..order.count {
-            let a = order.numbers[i];
-            let b = order.numbers[j];
-            if a < 16 && b < 16 && seen[a][b] && i >= j {
-                return false;
-            }
-        }
-    }
-    true
+fn keeps(seen: &Pairs, order: &[usize]) -> bool {
+    order.iter().enumerate().all(|(place, b)| order.iter().skip(place).all(|a| !seen.has(*a, *b)))
 }
 
-// Notes each read that the order serves, and says whether it serves all.
-fn serve(small: &Small, seen: &Pairs, order: Writes, served: &mut [bool; 16]) -> bool {
-    let mut all = true;
-    for read in 0..small.count {
-        if !small.items[read].writes {
-            if has_its_value(small, seen, order, read) {
-                served[read] = true;
-            } else {
-                all = false;
-            }
-        }
-    }
-    all
-}
-
-// Whether the last write of its register that a read sees carries its value; it sees none exactly when its value is 0.
-fn has_its_value(small: &Small, seen: &Pairs, order: Writes, read: usize) -> bool {
-    if read >= 16 {
-        return false;
-    }
-    let reads = small.items[read];
-    let mut last = None;
-    for i in 0..order.count {
-        let write = order.numbers[i];
-        if write < 16 && seen[write][read] && small.items[write].register == reads.register {
-            last = Some(small.items[write].value);
-        }
-    }
-    match last {
-        Some(value) => reads.value != 0 && value == reads.value,
-        None => reads.value == 0,
-    }
-}
-
-// Whether each read is served.
-fn all_served(small: &Small, served: &[bool; 16]) -> bool {
-    for read in 0..small.count {
-        if !small.items[read].writes && !served[read] {
-            return false;
-        }
-    }
-    true
+// Whether a read has the value of the last write of its register that it sees, or 0 where it sees none; a write always does.
+fn has_its_value(recording: &Recording, seen: &Pairs, order: &[usize], number: usize) -> bool {
+    let Some(read) = recording.operation(number) else {
+        return true;
+    };
+    let last = order
+        .iter()
+        .rev()
+        .filter(|write| seen.has(**write, number))
+        .filter_map(|write| recording.operation(*write))
+        .find(|write| write.register == read.register);
+    read.kind == Kind::Write || last.map_or(0, |write| write.value) == read.value
 }

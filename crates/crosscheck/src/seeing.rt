@@ -1,40 +1,50 @@
 //! Least visibilities, pair by pair from the definition.
-use crate::small::Small;
+use crate::pairs::Pairs;
+use recording::{Kind, Recording};
+use std::array;
 
-/// A rule, as the second checker knows it.
-#[derive(Clone, Copy)]
-pub enum Law {
-    Causal,
-    Late(usize),
-    Terms(&'static [&'static [u8]]),
-}
-
-/// A relation on 16 numbers.
-pub type Pairs = [[bool; 16]; 16];
-
-/// The least visibility of a law.
-pub fn least(small: &Small, law: Law) -> Pairs {
-    let mut seen = [[false; 16]; 16];
-    for w in 0..small.count {
-        for r in 0..small.count {
-            seen[w][r] = small.is_source(w, r);
-        }
-    }
+/// The least visibility of a recording that holds what is demanded under it.
+pub fn least<F: Fn(&Recording, &Pairs, usize, usize) -> bool>(
+    recording: &Recording,
+    demands: F,
+) -> Pairs
+    requires { F.IsAlwaysCallable demands }
+{
+    let mut seen = Pairs::that(|w, r| is_source(recording, w, r));
     for _ in 0..257 {
-        if !add_demanded(small, law, &mut seen) {
+        if !add_demanded(recording, &demands, &mut seen) {
             return seen;
         }
     }
     seen
 }
 
+// Whether the write `w` gives the read `r` its value.
+fn is_source(recording: &Recording, w: usize, r: usize) -> bool {
+    match (recording.operation(w), recording.operation(r)) {
+        (Some(write), Some(read)) => {
+            write.kind == Kind::Write
+                && read.kind == Kind::Read
+                && write.register == read.register
+                && write.value == read.value
+        }
+        _ => false,
+    }
+}
+
 // Adds each pair that is demanded, and says whether one was new.
-fn add_demanded(small: &Small, law: Law, seen: &mut Pairs) -> bool {
+fn add_demanded<F: Fn(&Recording, &Pairs, usize, usize) -> bool>(
+    recording: &Recording,
+    demands: &F,
+    seen: &mut Pairs,
+) -> bool
+    requires { F.IsAlwaysCallable demands.now }
+{
     let mut new = false;
-    for a in 0..small.count {
-        for b in 0..small.count {
-            if !seen[a][b] && demands(small, law, seen, a, b) {
-                seen[a][b] = true;
+    for a in 0..recording.count() {
+        for b in 0..recording.count() {
+            if !seen.has(a, b) && demands(recording, seen, a, b) {
+                seen.add(a, b);
                 new = true;
             }
         }
@@ -42,90 +52,48 @@ fn add_demanded(small: &Small, law: Law, seen: &mut Pairs) -> bool {
     new
 }
 
-// Whether the law demands the pair.
-fn demands(small: &Small, law: Law, seen: &Pairs, a: usize, b: usize) -> bool {
-    match law {
-        Law::Causal => small.before(a, b) || joined(small, seen, a, b),
-        Law::Late(distance) => small.before(a, b) && places(small, a, b) >= distance,
-        Law::Terms(terms) => {
-            for term in terms {
-                if walks(small, seen, term, a, b) {
-                    return true;
-                }
-            }
-            false
-        }
-    }
+/// What the causal rule demands: what comes before at one station, and what is seen by way of another operation.
+pub fn is_causal(recording: &Recording, seen: &Pairs, a: usize, b: usize) -> bool {
+    is_before(recording, a, b) || (0..16).any(|c| seen.has(a, c) && seen.has(c, b))
 }
 
-// Whether some c sees `a` and is seen by `b`.
-fn joined(small: &Small, seen: &Pairs, a: usize, b: usize) -> bool {
-    for c in 0..small.count {
-        if a < 16 && b < 16 && seen[a][c] && seen[c][b] {
-            return true;
-        }
-    }
-    false
+/// What a late rule demands: what comes before at one station by so many places.
+pub fn is_late(recording: &Recording, distance: usize, a: usize, b: usize) -> bool {
+    is_before(recording, a, b)
+        && (0..16)
+            .filter(|c| *c <= b && is_before(recording, a, *c))
+            .count()
+            >= distance
 }
 
-// How many places `b` comes after `a` at their station.
-fn places(small: &Small, a: usize, b: usize) -> usize {
-    let mut count: usize = 0;
-    for c in 0..small.count {
-        if c <= b && small.before(a, c) {
-            count = count.saturating_add(1);
-        }
-    }
-    count
-}
-
-// Whether the steps of a term lead from `a` to `b`.
-fn walks(small: &Small, seen: &Pairs, term: &[u8], a: usize, b: usize) -> bool {
-    let mut here = [false; 16];
-    if a < 16 {
-        here[a] = true;
-    }
+/// What a term demands: whether its steps lead from `a` to `b`.
+pub fn walks(recording: &Recording, seen: &Pairs, term: &[u8], a: usize, b: usize) -> bool {
+    let mut here: [bool; 16] = array::from_fn(|c| c == a);
     for letter in term {
-        here = step(small, seen, *letter, &here);
+        here = step(recording, seen, *letter, &here);
     }
     b < 16 && here[b]
 }
 
 // Where one step by a letter leads from some numbers.
-fn step(small: &Small, seen: &Pairs, letter: u8, here: &[bool; 16]) -> [bool; 16] {
-    let mut there = [false; 16];
-    for c in 0..small.count {
-        for b in 0..small.count {
-            if here[c]
-                && (if letter == b's' {
-                    small.before(c, b)
-                } else {
-                    seen[c][b]
-                })
-            {
-                there[b] = true;
-            }
+fn step(recording: &Recording, seen: &Pairs, letter: u8, here: &[bool; 16]) -> [bool; 16] {
+    let leads = |c, b| {
+        if letter == b's' {
+            is_before(recording, c, b)
+        } else {
+            seen.has(c, b)
         }
-    }
-    there
+    };
+    array::from_fn(|b| here
+        .iter()
+        .enumerate()
+        .any(|(c, is_here)| *is_here && leads(c, b)))
 }
 
-/// Whether no steps lead from a number to itself.
-pub fn is_acyclic(small: &Small, seen: &Pairs) -> bool {
-    let mut reached = *seen;
-    for c in 0..small.count {
-        for a in 0..small.count {
-            for b in 0..small.count {
-                if reached[a][c] && reached[c][b] {
-                    reached[a][b] = true;
-                }
-            }
-        }
+// Whether `b` comes after `a` at one station.
+fn is_before(recording: &Recording, a: usize, b: usize) -> bool {
+    match (recording.operation(a), recording.operation(b)) {
+        (Some(first), Some(second)) => a < b && first.station == second.station,
+        _ => false,
     }
-    for a in 0..small.count {
-        if reached[a][a] {
-            return false;
-        }
-    }
-    true
 }

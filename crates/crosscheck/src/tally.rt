@@ -1,32 +1,64 @@
 //! How often each verdict came.
+use judgement::Violation;
 
-/// The verdicts of one judgement: explained, and each violation by its number.
+/// How often a recording was explained, or a violation was named.
+#[derive(Clone, Copy)]
+pub struct Count {
+    pub verdict: Option<Violation>,
+    pub times: u64,
+}
+
+/// The verdicts of one judgement, and how often the second checker disagreed.
 #[derive(Clone, Copy)]
 pub struct Tally {
-    counts: [u64; 8],
+    pub counts: [Count; 8],
     pub disagreed: u64,
 }
 
 impl Tally {
     /// No verdict yet.
     pub fn new() -> Tally {
+        let verdicts = [
+            None,
+            Some(Violation::ThinAir),
+            Some(Violation::BadVisibility),
+            Some(Violation::BadInitRead),
+            Some(Violation::BadRead),
+            Some(Violation::BadArb),
+            Some(Violation::HbInitRead),
+            Some(Violation::CyclicHb),
+        ];
         Tally {
-            counts: [0; 8],
+            counts: verdicts.map(|verdict| Count { verdict, times: 0 }),
             disagreed: 0,
         }
     }
 
-    /// Notes a verdict by its number, and whether the second checker explains the recording.
-    pub fn note(&mut self, number: u8, explained: bool) {
-        let place = number as usize % 8;
-        self.counts[place] = self.counts[place].saturating_add(1);
-        if (number == 0) != explained {
+    /// Notes a verdict, and whether the second checker explains the recording.
+    pub fn note(&mut self, verdict: Option<Violation>, explained: bool) {
+        for count in &mut self.counts {
+            if count.verdict == verdict {
+                count.times = count.times.saturating_add(1);
+            }
+        }
+        if verdict.is_none() != explained {
             self.disagreed = self.disagreed.saturating_add(1);
         }
     }
+}
 
-    /// How often the verdict of a number came.
-    pub fn count(&self, number: usize) -> u64 {
-        self.counts[number % 8]
+impl Count {
+    /// What the verdict is called.
+    pub fn name(self) -> &'static str {
+        match self.verdict {
+            None => "explained",
+            Some(Violation::ThinAir) => "thinair",
+            Some(Violation::BadVisibility) => "badvisibility",
+            Some(Violation::BadInitRead) => "badinitread",
+            Some(Violation::BadRead) => "badread",
+            Some(Violation::BadArb) => "badarb",
+            Some(Violation::HbInitRead) => "hbinitread",
+            Some(Violation::CyclicHb) => "cyclichb",
+        }
     }
 }

@@ -1,4 +1,0 @@
-use Rattle.crosscheck.proofs.listing.+lists.Given as goal
-
-abbrev pub decreases-lists : goal.decreases-lists
-decreases-lists l = l.left
