@@ -1,6 +1,7 @@
 //! Verdicts on small recordings.
 use judgement::{
-    Refusal, Violation, judge_own, judge_session, judge_shared, order_for_read, order_for_station,
+    Refusal, Verdict, Violation, judge_own, judge_session, judge_shared, order_for_read,
+    order_for_station,
 };
 use recording::Recording;
 use rows::Table;
@@ -22,64 +23,63 @@ fn told(rt: &impl Abort, operations: &[(u32, char, u32, u32)]) -> Recording {
     recording
 }
 
-// The violation of the own judgement, and its evidence.
-fn own<R: Rule>(
-    recording: &Recording,
-    rule: &R,
-) -> Result<(Option<Violation>, usize, [u16; 3]), Fail> {
+// A violation, how many numbers of evidence there are, and the first three of the buffer.
+type Found = (Option<Violation>, usize, [u16; 3]);
+
+// The verdict of a judgement, and the first three numbers of the evidence buffer.
+fn judged<J: FnOnce(&mut [u64], &mut [u64], &mut [u16]) -> Result<Verdict, Refusal>>(
+    judge: J,
+) -> Result<(Verdict, [u16; 3]), Fail>
+    requires { J.IsAlwaysCallable judge }
+{
     let mut evidence = [999; 256];
-    match judge_own(
-        recording,
-        rule,
-        &mut [7; 1024],
-        &mut [7; 1024],
-        &mut evidence,
-    ) {
-        Ok(verdict) => Ok((
-            verdict.violation,
-            verdict.count,
-            [evidence[0], evidence[1], evidence[2]],
-        )),
-        Err(_) => Err(Fail::new("refused")),
-    }
+    let verdict = judge(&mut [7; 1024], &mut [7; 1024], &mut evidence)?;
+    Ok((verdict, front(&evidence)))
 }
 
-// The same of the shared judgement.
-fn shared<R: Rule>(
-    recording: &Recording,
-    rule: &R,
-) -> Result<(Option<Violation>, usize, [u16; 3]), Fail> {
+// The first three numbers of a buffer.
+fn front(evidence: &[u16; 256]) -> [u16; 3] {
+    [evidence[0], evidence[1], evidence[2]]
+}
+
+// What the own judgement finds.
+fn own<R: Rule>(recording: &Recording, rule: &R) -> Result<Found, Fail> {
+    let (verdict, evidence) = judged(|seen, working, evidence| judge_own(
+        recording, rule, seen, working, evidence,
+    ))?;
+    Ok((verdict.violation, verdict.count, evidence))
+}
+
+// What the shared judgement finds.
+fn shared<R: Rule>(recording: &Recording, rule: &R) -> Result<Found, Fail> {
+    let (verdict, evidence) = judged(|seen, working, evidence| judge_shared(
+        recording, rule, seen, working, evidence,
+    ))?;
+    Ok((verdict.violation, verdict.count, evidence))
+}
+
+// The length of the order for a read under the causal rule, and the first three numbers of the evidence buffer.
+fn ordered(recording: &Recording, read: usize) -> Result<(usize, [u16; 3]), Refusal> {
     let mut evidence = [999; 256];
-    match judge_shared(
+    let count = order_for_read(
         recording,
-        rule,
-        &mut [7; 1024],
-        &mut [7; 1024],
+        &Causal,
+        read,
+        &mut [0; 1024],
+        &mut [0; 1024],
         &mut evidence,
-    ) {
-        Ok(verdict) => Ok((
-            verdict.violation,
-            verdict.count,
-            [evidence[0], evidence[1], evidence[2]],
-        )),
-        Err(_) => Err(Fail::new("refused")),
-    }
+    )?;
+    Ok((count, front(&evidence)))
 }
 
 // A term list that is spelled right.
 fn terms(spelling: &[u8]) -> Result<TermList, Fail> {
-    match TermList::spelled(spelling) {
-        Ok(terms) => Ok(terms),
-        Err(_) => Err(Fail::new("misspelled")),
-    }
+    TermList::spelled(spelling).map_err(|_| Fail::new("misspelled"))
 }
 
 // A late rule with a distance that it takes.
 fn late(distance: u32) -> Result<Late, Fail> {
-    match Late::new(distance) {
-        Ok(late) => Ok(late),
-        Err(_) => Err(Fail::new("no such distance")),
-    }
+    Late::new(distance).map_err(|_| Fail::new("no such distance"))
 }
 
 #[test]
@@ -153,36 +153,11 @@ fn reads_that_want_opposite_orders_have_each_its_own(rt: HostRuntime) -> Result<
         ],
     );
     assert_eq!(rt; own(&recording, &Causal)?, (None, 0, [999, 999, 999]));
-    let found = shared(&recording, &Causal)?;
-    assert_eq!(rt; found.0, Some(Violation::BadArb));
-    assert_eq!(rt; found.1, 2);
-    let mut evidence = [999; 256];
-    let mut seen = [0; 1024];
-    let mut working = [0; 1024];
-    assert_eq!(rt;
-        order_for_read(
-            &recording,
-            &Causal,
-            1,
-            &mut seen,
-            &mut working,
-            &mut evidence,
-        ),
-        Ok(2)
-    );
-    assert_eq!(rt; [evidence[0], evidence[1], evidence[2]], [0, 2, 999]);
-    assert_eq!(rt;
-        order_for_read(
-            &recording,
-            &Causal,
-            3,
-            &mut seen,
-            &mut working,
-            &mut evidence,
-        ),
-        Ok(2)
-    );
-    assert_eq!(rt; [evidence[0], evidence[1], evidence[2]], [2, 0, 999]);
+    let (violation, count, _) = shared(&recording, &Causal)?;
+    assert_eq!(rt; violation, Some(Violation::BadArb));
+    assert_eq!(rt; count, 2);
+    assert_eq!(rt; ordered(&recording, 1), Ok((2, [0, 2, 999])));
+    assert_eq!(rt; ordered(&recording, 3), Ok((2, [2, 0, 999])));
     Ok(())
 }
 
@@ -203,11 +178,9 @@ fn a_bad_read_by_two_steps_where_one_does_not_show_it(rt: HostRuntime) -> Result
     let mut seen = [0; 1024];
     let mut working = [0; 1024];
     let mut evidence = [999; 256];
-    let Ok(verdict) = judge_own(&recording, &rule, &mut seen, &mut working, &mut evidence) else {
-        return Err(Fail::new("refused"));
-    };
+    let verdict = judge_own(&recording, &rule, &mut seen, &mut working, &mut evidence)?;
     assert_eq!(rt; verdict.violation, Some(Violation::BadRead));
-    assert_eq!(rt; [evidence[0], evidence[1], evidence[2]], [5, 0, 4]);
+    assert_eq!(rt; front(&evidence), [5, 0, 4]);
     let table = Table { words: &seen };
     assert!(rt; !table.pair(0, 4));
     assert!(rt; table.pair(0, 2) && table.pair(2, 4));
@@ -254,25 +227,19 @@ fn an_order_is_refused_on_the_first_ground(rt: HostRuntime) {
         ),
         Err(Refusal::NotExplained)
     );
-    assert_eq!(rt; [evidence[0], evidence[1], evidence[2]], [1, 0, 999]);
+    assert_eq!(rt; front(&evidence), [1, 0, 999]);
     assert_eq!(rt; seen[0], 2);
     assert_eq!(rt; Refusal::WrongLength.number(), 8);
     assert_eq!(rt; Refusal::NotARead.number(), 7);
     assert_eq!(rt; Refusal::NotExplained.number(), 17);
 }
 
-// The violation of the session judgement, its station, and its evidence.
+// What the session judgement finds, with its station after the violation.
 fn session(recording: &Recording) -> Result<(Option<Violation>, u8, usize, [u16; 3]), Fail> {
-    let mut evidence = [999; 256];
-    match judge_session(recording, &mut [7; 1024], &mut [7; 1024], &mut evidence) {
-        Ok(verdict) => Ok((
-            verdict.violation,
-            verdict.station,
-            verdict.count,
-            [evidence[0], evidence[1], evidence[2]],
-        )),
-        Err(_) => Err(Fail::new("refused")),
-    }
+    let (verdict, evidence) = judged(|seen, working, evidence| judge_session(
+        recording, seen, working, evidence,
+    ))?;
+    Ok((verdict.violation, verdict.station, verdict.count, evidence))
 }
 
 #[test]
@@ -324,7 +291,7 @@ fn opposite_orders_are_explained_by_sessions(rt: HostRuntime) -> Result<(), Fail
         order_for_station(&recording, 1, &mut seen, &mut working, &mut evidence),
         Ok(3)
     );
-    assert_eq!(rt; [evidence[0], evidence[1], evidence[2]], [2, 0, 3]);
+    assert_eq!(rt; front(&evidence), [2, 0, 3]);
     assert_eq!(rt; evidence[3], 999);
     assert_eq!(rt;
         order_for_station(&recording, 2, &mut seen, &mut working, &mut evidence),

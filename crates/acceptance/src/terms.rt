@@ -4,11 +4,9 @@ use rows::Table;
 use std::test::Fail;
 use visibility::{TermList, least_visibility};
 
+// The spelling is refused by 15, at that place.
 fn refused_at(bytes: &[u8], place: usize) -> bool {
-    match TermList::spelled(bytes) {
-        Ok(_) => false,
-        Err(refusal) => refusal.number() == 15 && refusal.place == place,
-    }
+    TermList::spelled(bytes).is_err_and(|refusal| refusal.number() == 15 && refusal.place == place)
 }
 
 #[test]
