@@ -11,6 +11,7 @@ pub fn least<F: Fn(&Recording, &Pairs, usize, usize) -> bool>(
     requires { F.IsAlwaysCallable demands }
 {
     let mut seen = Pairs::that(|w, r| is_source(recording, w, r));
+    // There are 256 pairs, and every round but the last adds one.
     for _ in 0..257 {
         if !add_demanded(recording, &demands, &mut seen) {
             return seen;
