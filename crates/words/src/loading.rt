@@ -1,12 +1,13 @@
 //! Loading a recording from words.
 ghost use Rattle.std.specs.Prelude.{◌≡◌};
 ghost use Rattle.recording.specs.Telling.{recorded};
+ghost use Rattle.words.specs.declared.loading.LoadRefusal.TheVariants.{Reader};
 ghost use Rattle.words.specs.Loading.{ToldAnswer, Loads, layer_of, number_of, place_of};
 ghost use Rattle.words.specs.Reading.{heard};
 
 use crate::fault::Misread;
 use crate::reader::Reader;
-use crate::record::Record;
+use crate::record::{Placed, Record};
 use recording::{Recording, Refusal};
 use std::error::Error;
 use std::fmt;
@@ -72,6 +73,14 @@ impl fmt::Display for LoadRefusal {
 
 impl Error for LoadRefusal {}
 
+impl From<Misread> for LoadRefusal {
+    ghost from_gives = { λ misread refusal. refusal ≡ Reader misread };
+
+    fn from(refused: Misread) -> LoadRefusal {
+        LoadRefusal::Reader(refused)
+    }
+}
+
 /// Tells the recording the opening and each operation of the words, and answers the count of operations.
 /// After a refusal the recording has what was told before the fault.
 pub fn load(recording: &mut Recording, words: &[u32]) -> Result<usize, LoadRefusal>
@@ -81,19 +90,13 @@ pub fn load(recording: &mut Recording, words: &[u32]) -> Result<usize, LoadRefus
         return Err(LoadRefusal::TooLong);
     }
     let mut reader = Reader::new(words);
-    'records: loop {
-        let next = match reader.next() {
-            Ok(next) => next,
-            Err(misread) => return Err(LoadRefusal::Reader(misread)),
-        };
-        let Some(placed) = next else {
-            return Ok(recording.count());
-        };
-        if let Err(refusal) = tell_record(recording, placed.record) {
-            let place = placed.place;
-            return Err(LoadRefusal::Recording { refusal, place });
-        }
+    while let Some(Placed { place, record }) = reader.next()? {
+        tell_record(recording, record).map_err(|refusal| LoadRefusal::Recording {
+            refusal,
+            place,
+        })?;
     }
+    Ok(recording.count())
 }
 
 // Tells what one record says.

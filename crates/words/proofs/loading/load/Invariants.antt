@@ -6,11 +6,11 @@ use Rattle.words.specs.Reading.{reading, at_start}
 use Rattle.words.proofs.loading.load.Given as goal
 
 -- a load of what is left, from here on, is the whole load
-abbrev pub invariant-records : goal.invariant-records
-invariant-records l =
+abbrev pub invariant-loop-place : goal.invariant-loop-place
+invariant-loop-place l =
     (answer : Result ℕ LoadRefusal) (after : Recorded)
     → LoadsFrom (reading l.reader) (recorded l.recording) answer after
     → LoadsFrom (at_start l.words) (recorded l.initial.recording) answer after
 
-abbrev pub decreases-records : goal.decreases-records
-decreases-records l = length (reading l.reader).rest
+abbrev pub decreases-loop-place : goal.decreases-loop-place
+decreases-loop-place l = length (reading l.reader).rest
