@@ -21,8 +21,8 @@ use Rattle.words.specs.declared.loading.LoadRefusal.{LoadRefusal}
 use Rattle.words.specs.declared.reader.Phase.TheVariants.{Before, Between}
 use Rattle.words.specs.Layout.{bits, kind_of, zero_bits, is_opening, is_note, is_closing, Said, opening, write, read, closing, says}
 use Rattle.words.specs.Reading.{Reading, at_start, ground_at, ground_of, said_at, pass}
-use Rattle.words.specs.Loading.{tell_ground, told, Tells, LoadsFrom}
-use Rattle.words.specs.Saving.{opening_word, closing_word, operation_word, words_of, LoadsBack}
+use Rattle.words.specs.Loading.{tell_ground, told, Tells, Loads, LoadsFrom}
+use Rattle.words.specs.Saving.{opening_word, closing_word, operation_word, words_of, Saves, LoadsBack}
 
 -- ── Going on with a load ──
 
@@ -245,8 +245,11 @@ pub recording_loads_back : (r : Recording) → LoadsBack (recorded r)
 recording_loads_back r =
     loads_back (recorded r) r.some r.most r.few r.range r.nonzero r.apart
 
--- the words that were saved, at the front
-pub saved_front : (r : Recorded) (n : ℕ) (before after : List ℕ) → n ≡ length r.operations + 2 → after ≡ words_of r ++ drop n before → take n after ≡ words_of r
-saved_front r n before after count e =
-    ap (take n) e ∙ take_at (words_of r) (drop n before) n
-    (omega (arith, length-append (map operation_word r.operations) (closing_word (length r.operations) ∷ []), length-map r.operations operation_word))
+-- a load of the words that were saved
+pub copied : (r : Recording) (n : ℕ) (before after : List ℕ) (b : Recorded) (answer : Result ℕ LoadRefusal) (a : Recorded)
+    → Saves (recorded r) before (Ok n) after → Loads b (take n after) answer a → (answer ≡ Ok (length (recorded r).operations)) × (a ≡ recorded r)
+copied r n before after b answer a saved loads =
+    let ws = words_of (recorded r) in
+    let long : length ws ≡ n = omega (arith, saved.0, length-append (map operation_word (recorded r).operations) (closing_word (length (recorded r).operations) ∷ []), length-map (recorded r).operations operation_word) in
+    let front : take n after ≡ ws = ap (take n) saved.2 ∙ take_at ws (drop n before) n long in
+    recording_loads_back r b answer a (subst (λ l. Loads b l answer a) front loads)

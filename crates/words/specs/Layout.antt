@@ -1,5 +1,7 @@
 -- The layout of a word of 32 bits, and what the words of a recording say.
-use Rattle.std.specs.Prelude.{ℕ, ◌+◌, ◌-◌, ◌/◌, ◌%◌, ◌^◌, Bool, true, false, cond, not, List, take, ◌==◌}
+use Rattle.std.specs.Prelude.{ℕ, ◌+◌, ◌-◌, ◌*◌, ◌/◌, ◌%◌, ◌^◌, Bool, true, false, cond, not, List, take, ◌==◌}
+use Rattle.recording.specs.declared.operation.Kind.{Kind}
+use Rattle.recording.specs.declared.operation.Kind.TheVariants as kind
 use Rattle.words.specs.declared.kind.WordKind.{WordKind}
 use Rattle.words.specs.declared.kind.WordKind.TheVariants.{Note, Write, Read, Opening, Closing}
 
@@ -14,6 +16,19 @@ kind_of w =
     (cond (bits 31 30 w == 1) Write
     (cond (bits 31 30 w == 2) Read
     (cond (bits 29 29 w == 0) Opening Closing)))
+
+-- the kind of an operation's word
+abbrev pub kind_word : Kind → WordKind
+kind_word kind.Write = Write
+kind_word kind.Read = Read
+
+-- the word of the kind whose other bits are all 0
+abbrev pub blank : WordKind → ℕ
+blank Note = 0
+blank Write = 1 * 2 ^ 30
+blank Read = 2 * 2 ^ 30
+blank Opening = 3 * 2 ^ 30
+blank Closing = 3 * 2 ^ 30 + 2 ^ 29
 
 -- the bits that are 0 in every word of the kind
 abbrev pub zero_bits : WordKind → ℕ → ℕ

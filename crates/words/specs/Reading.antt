@@ -89,6 +89,12 @@ Next before (Ok (Some p)) after = (ground_of before ≡ None) × (said_at before
 Next before (Ok None) after = (ground_of before ≡ None) × (before.rest ≡ []) × (after ≡ before)
 Next before (Err e) after = (ground_of before ≡ Some e.fault) × (e.place ≡ before.place) × (after ≡ before)
 
+-- what the words that are left say first, that none is left, or the fault
+abbrev pub SaidAnswer : Reading → Result (Option Record) Fault → Type 0
+SaidAnswer r (Ok (Some x)) = (ground_of r ≡ None) × (said_at r.rest ≡ Some (heard x))
+SaidAnswer r (Ok None) = (ground_of r ≡ None) × (r.rest ≡ [])
+SaidAnswer r (Err e) = ground_of r ≡ Some e
+
 -- what the words w and `more` are taken for
 abbrev pub RecordAnswer : Phase → ℕ → ℕ → List ℕ → Result Record Fault → Type 0
 RecordAnswer phase n w more (Ok x) = (ground_at phase n (w ∷ more) ≡ None) × (heard x ≡ says (kind_of w) w more)

@@ -1,26 +1,22 @@
 -- The words of a recording, and what a save leaves.
 use Rattle.std.specs.Prelude.{◌≡◌, ℕ, ◌+◌, ◌*◌, ◌^◌, ◌<◌, ◌≤◌, List, [], ◌∷◌, ◌++◌, map, length, drop, Ok, Err, Result}
-use Rattle.recording.specs.declared.operation.Kind.{Kind}
-use Rattle.recording.specs.declared.operation.Kind.TheVariants.{Write, Read}
 use Rattle.recording.specs.declared.operation.Operation.{Operation}
 use Rattle.recording.specs.Telling.{Recorded}
+use Rattle.words.specs.declared.kind.WordKind.TheVariants.{Opening, Closing}
 use Rattle.words.specs.declared.loading.LoadRefusal.{LoadRefusal}
 use Rattle.words.specs.declared.saving.SaveRefusal.{SaveRefusal}
 use Rattle.words.specs.declared.saving.SaveRefusal.TheVariants.{TooShort}
+use Rattle.words.specs.Layout.{kind_word, blank}
 use Rattle.words.specs.Loading.{Loads}
 
 abbrev pub opening_word : ℕ → ℕ
-opening_word stations = 3 * 2 ^ 30 + stations
+opening_word stations = blank Opening + stations
 
 abbrev pub closing_word : ℕ → ℕ
-closing_word count = 3 * 2 ^ 30 + 2 ^ 29 + count
-
-abbrev pub kind_bits : Kind → ℕ
-kind_bits Write = 1
-kind_bits Read = 2
+closing_word count = blank Closing + count
 
 abbrev pub operation_word : Operation → ℕ
-operation_word x = kind_bits x.kind * 2 ^ 30 + x.station * 2 ^ 25 + x.register * 2 ^ 19 + x.value
+operation_word x = blank (kind_word x.kind) + x.station * 2 ^ 25 + x.register * 2 ^ 19 + x.value
 
 -- opening, operations and closing
 abbrev pub words_of : Recorded → List ℕ

@@ -1,23 +1,24 @@
 //! The kinds of words.
 ghost use Rattle.std.specs.Prelude.{◌≡◌};
-ghost use Rattle.words.specs.Layout.{kind_of, zero_bits};
+ghost use Rattle.words.specs.Layout.{kind_of, kind_word, blank, zero_bits};
 
 use crate::field::field;
+use recording::Kind;
 
-// What a word is: the top two bits, and for a frame whether it opens or closes.
+// What a word is, with its top three bits, of which only a frame uses the last.
 #[derive(Clone, Copy)]
 pub(crate) enum WordKind {
-    Note,
-    Write,
-    Read,
-    Opening,
-    Closing,
+    Note = 0b000,
+    Write = 0b010,
+    Read = 0b100,
+    Opening = 0b110,
+    Closing = 0b111,
 }
 
-impl WordKind {
-    pub(crate) fn of(word: u32) -> WordKind
-        ensures { result ≡ kind_of word }
-    {
+impl From<u32> for WordKind {
+    ghost from_gives = { λ word kind. kind ≡ kind_of word };
+
+    fn from(word: u32) -> WordKind {
         match (field(word, 31, 30), field(word, 29, 29)) {
             (0, _) => WordKind::Note,
             (1, _) => WordKind::Write,
@@ -25,6 +26,26 @@ impl WordKind {
             (_, 0) => WordKind::Opening,
             (_, _) => WordKind::Closing,
         }
+    }
+}
+
+impl From<Kind> for WordKind {
+    ghost from_gives = { λ kind word. word ≡ kind_word kind };
+
+    fn from(kind: Kind) -> WordKind {
+        match kind {
+            Kind::Write => WordKind::Write,
+            Kind::Read => WordKind::Read,
+        }
+    }
+}
+
+impl WordKind {
+    // The word of the kind whose other bits are all 0.
+    pub(crate) fn blank(self) -> u32
+        ensures { result ≡ blank self }
+    {
+        u32::from(self as u8) << 29
     }
 
     // The bits of the word that its kind has at 0.

@@ -3,8 +3,9 @@ ghost use Rattle.std.specs.Prelude.{◌≡◌, ◌^◌, ◌<◌, ◌≤◌};
 ghost use Rattle.recording.specs.Telling.{recorded};
 ghost use Rattle.words.specs.Saving.{opening_word, operation_word, closing_word, Saves, LoadsBack, Copied, number_of};
 
+use crate::kind::WordKind;
 use crate::loading::load;
-use recording::{Kind, Operation, Recording};
+use recording::{Operation, Recording};
 use std::error::Error;
 use std::fmt;
 
@@ -38,18 +39,16 @@ impl Error for SaveRefusal {}
 pub fn save(recording: &Recording, words: &mut [u32]) -> Result<usize, SaveRefusal>
     ensures { Saves (recorded recording.now) words.old result words.new }
 {
-    let count = recording.count();
+    let operations = recording.operations();
+    let count = operations.len();
     if words.len() < count + 2 {
         return Err(SaveRefusal::TooShort);
     }
-    words[0] = 3 << 30 | recording.stations() as u32;
-    for number in 0..count {
-        let Some(operation) = recording.operation(number) else {
-            unreachable()
-        };
-        words[number + 1] = operation_word(operation);
+    words[0] = WordKind::Opening.blank() | recording.stations() as u32;
+    for (number, operation) in operations.iter().enumerate() {
+        words[number + 1] = operation_word(*operation);
     }
-    words[count + 1] = 7 << 29 | count as u32;
+    words[count + 1] = WordKind::Closing.blank() | count as u32;
     Ok(count + 2)
 }
 
@@ -64,10 +63,8 @@ pub fn copy(
     ensures loads_back { LoadsBack (recorded recording.now) }
 {
     let count = save(recording, words)?;
-    match load(copied, &words[0..count]) {
-        Ok(_) => Ok(count),
-        Err(_) => unreachable(),
-    }
+    load(copied, &words[..count]).unwrap();
+    Ok(count)
 }
 
 // The word of an operation.
@@ -77,11 +74,7 @@ fn operation_word(operation: Operation) -> u32
     requires value { operation.value < 2 ^ 19 }
     ensures { result ≡ operation_word operation }
 {
-    let kind = match operation.kind {
-        Kind::Write => 1,
-        Kind::Read => 2,
-    };
-    kind << 30
+    WordKind::from(operation.kind).blank()
         | u32::from(operation.station) << 25
         | u32::from(operation.register) << 19
         | operation.value

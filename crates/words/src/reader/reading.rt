@@ -1,6 +1,6 @@
 //! How a reader goes from record to record.
 ghost use Rattle.std.specs.Prelude.{◌≡◌, ◌+◌, ◌<◌, ◌≤◌, length};
-ghost use Rattle.words.specs.Reading.{reading, at_start, heard, width_of, tells, phase_after, pass, Next, RecordAnswer};
+ghost use Rattle.words.specs.Reading.{reading, at_start, heard, width_of, tells, phase_after, pass, Next, SaidAnswer, RecordAnswer};
 
 use crate::fault::{Fault, Misread};
 use crate::field::field;
@@ -26,25 +26,23 @@ impl<'a> Reader<'a> {
         ensures { Next (reading self.old) result (reading self.new) }
     {
         let place = self.place;
-        match self.rest() {
-            [] => match self.phase {
-                Phase::Before => Err(Misread {
-                    fault: Fault::NotAnOpening,
-                    place,
-                }),
-                Phase::Between => Err(Misread {
-                    fault: Fault::Unclosed,
-                    place,
-                }),
-                Phase::After => Ok(None),
-            },
-            [first, rest @ ..] => match self.record(*first, rest) {
-                Ok(record) => {
-                    self.pass(record);
-                    Ok(Some(Placed { place, record }))
-                }
-                Err(fault) => Err(Misread { fault, place }),
-            },
+        let said = self.said().map_err(|fault| Misread { fault, place })?;
+        let Some(record) = said else {
+            return Ok(None);
+        };
+        self.pass(record);
+        Ok(Some(Placed { place, record }))
+    }
+
+    // What the words that are left say first.
+    fn said(&self) -> Result<Option<Record<'a>>, Fault>
+        ensures { SaidAnswer (reading self.now) result }
+    {
+        match (self.phase, self.rest()) {
+            (Phase::Before, []) => Err(Fault::NotAnOpening),
+            (Phase::Between, []) => Err(Fault::Unclosed),
+            (Phase::After, []) => Ok(None),
+            (_, [first, rest @ ..]) => Ok(Some(self.record(*first, rest)?)),
         }
     }
 
@@ -52,34 +50,30 @@ impl<'a> Reader<'a> {
     fn record(&self, first: u32, rest: &'a [u32]) -> Result<Record<'a>, Fault>
         ensures { RecordAnswer self.now.phase self.now.operations first rest.now result }
     {
-        let kind = WordKind::of(first);
+        let kind = WordKind::from(first);
         let zero_bit_set = kind.zero_bits(first) != 0;
+        let station = field(first, 28, 25) as u8;
+        let register = field(first, 24, 19) as u8;
+        let value = field(first, 18, 0);
         match (self.phase, kind) {
-            (Phase::Before, WordKind::Opening) => {
-                if zero_bit_set {
-                    return Err(Fault::OutOfForm);
-                }
-                Ok(Record::Opening(field(first, 7, 0) as u8))
-            }
+            (Phase::Before, WordKind::Opening) if zero_bit_set => Err(Fault::OutOfForm),
+            (Phase::Before, WordKind::Opening) => Ok(Record::Opening(field(first, 7, 0) as u8)),
             (Phase::Before, _) => Err(Fault::NotAnOpening),
             (Phase::Between, _) if zero_bit_set => Err(Fault::OutOfForm),
             (Phase::Between, WordKind::Opening) => Err(Fault::OutOfForm),
             (Phase::Between, WordKind::Note) => {
-                let length = field(first, 7, 0) as usize;
-                if rest.len() < length {
-                    return Err(Fault::NoteTooLong);
-                }
-                Ok(Record::Note(&rest[0..length]))
+                let text = rest.get(..field(first, 7, 0) as usize);
+                Ok(Record::Note(text.ok_or(Fault::NoteTooLong)?))
             }
             (Phase::Between, WordKind::Write) => Ok(Record::Write {
-                station: field(first, 28, 25) as u8,
-                register: field(first, 24, 19) as u8,
-                value: field(first, 18, 0),
+                station,
+                register,
+                value,
             }),
             (Phase::Between, WordKind::Read) => Ok(Record::Read {
-                station: field(first, 28, 25) as u8,
-                register: field(first, 24, 19) as u8,
-                value: field(first, 18, 0),
+                station,
+                register,
+                value,
             }),
             (Phase::Between, WordKind::Closing) => {
                 let count = field(first, 28, 0);

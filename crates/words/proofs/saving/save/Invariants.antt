@@ -7,4 +7,4 @@ use Rattle.words.proofs.saving.save.Given as goal
 abbrev pub invariant-loop-number : goal.invariant-loop-number
 invariant-loop-number l =
     (take (l.number + 1) l.words ≡ opening_word (recorded l.recording).stations ∷ map operation_word (take l.number (recorded l.recording).operations))
-    × (drop (l.number + 1) l.words ≡ drop (l.number + 1) l.initial.words)
+    × (drop (l.number + 1) l.words ≡ drop (l.number + 1) l.fn.words)
