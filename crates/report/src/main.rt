@@ -7,7 +7,7 @@ mod texts;
 use line::Line;
 use recording::{Kind, Recording};
 use std::io;
-use words::{Answer, Call, copy, tell};
+use words::{Answer, Call, CallRefusal, copy, tell};
 
 // Tells the recording what one line says, and prints what it answers.
 fn tell_line(
@@ -27,19 +27,24 @@ fn tell_line(
 }
 
 // What a call of a line answers: a number or a refusal.
-fn print_answer(rt: &HostRuntime, number: u64, text: &str, answer: Answer) -> io::Result<()> {
+fn print_answer(
+    rt: &HostRuntime,
+    number: u64,
+    text: &str,
+    answer: Result<Answer, CallRefusal>,
+) -> io::Result<()> {
     match answer {
-        Answer::Started(Ok(())) => println!(rt; "line {number}: {text}: started"),
-        Answer::Told(Ok(operation)) => println!(rt; "line {number}: {text}: operation {operation}"),
-        Answer::Loaded(Ok(count)) => println!(rt;
+        Ok(Answer::Started) => println!(rt; "line {number}: {text}: started"),
+        Ok(Answer::Told(operation)) => println!(rt; "line {number}: {text}: operation {operation}"),
+        Ok(Answer::Loaded(count)) => println!(rt;
             "line {number}: {text}: {count} operations loaded"
         ),
-        Answer::Started(Err(refusal)) | Answer::Told(Err(refusal)) => {
+        Err(CallRefusal::Recording(refusal)) => {
             let ground = refusal.number();
             let why = texts::refusal(refusal);
             println!(rt; "line {number}: {text}: refused by {ground}, {why}")
         }
-        Answer::Loaded(Err(refusal)) => {
+        Err(CallRefusal::Load(refusal)) => {
             let ground = refusal.number();
             let place = refusal.place();
             println!(rt; "line {number}: {text}: refused by {ground} at word {place}")

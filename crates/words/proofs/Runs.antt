@@ -7,6 +7,7 @@ use Rattle.recording.specs.Telling.{Recorded, empty, with}
 use Rattle.words.specs.declared.calls.Answer.{Answer}
 use Rattle.words.specs.declared.calls.Call.{Call}
 use Rattle.words.specs.declared.calls.Call.TheVariants.{Start, Write, Read, Load}
+use Rattle.words.specs.declared.calls.CallRefusal.{CallRefusal}
 use Rattle.words.specs.declared.fault.Misread.{Misread}
 use Rattle.words.specs.declared.loading.LoadRefusal.{LoadRefusal}
 use Rattle.words.specs.Calls.{Answers}
@@ -89,7 +90,7 @@ refuses_one s b a es e since no' same = (es, (b, since, inr (e, no', refl)), sub
 abbrev TellsCall : Call → List Event → Recorded → Type 0
 TellsCall call es a = (said : List Said) × Tellings call said × Accepted es said a
 
-accepts_call : (call : Call) (b : Recorded) (answer : Answer) (a : Recorded) (es : List Event) → Since es b → Answers b call answer a → TellsCall call es a
+accepts_call : (call : Call) (b : Recorded) (answer : Result Answer CallRefusal) (a : Recorded) (es : List Event) → Since es b → Answers b call answer a → TellsCall call es a
 accepts_call (Start stations) b answer a es since (Ok u, e, t) = (opening stations ∷ [], refl, accepts_one (opening stations) b a es since t.0 t.1)
 accepts_call (Start stations) b answer a es since (Err f, e, t) = (opening stations ∷ [], refl, refuses_one (opening stations) b a es f since t.0 t.1)
 accepts_call (Write station register value) b answer a es since (Ok n, e, t) =
@@ -112,7 +113,7 @@ runs_more (c ∷ calls) call es between after said runs tells accepts =
     (runs.0, runs.1, runs.2, runs.3, runs_more calls call runs.1 between after said runs.4 tells accepts)
 
 -- what calls settled, and one more call, settle
-pub settles_more : (calls : List Call) (call : Call) (b : Recorded) (answer : Answer) (a : Recorded) → Settles calls b → Answers b call answer a → Settles (calls ++ call ∷ []) a
+pub settles_more : (calls : List Call) (call : Call) (b : Recorded) (answer : Result Answer CallRefusal) (a : Recorded) → Settles calls b → Answers b call answer a → Settles (calls ++ call ∷ []) a
 settles_more calls call b answer a s answers =
     let t = accepts_call call b answer a s.0 s.2 answers in
     let u = t.2 in

@@ -1,6 +1,7 @@
 //! The calls that change a recording, and whole runs of them.
 ghost use Rattle.std.specs.Prelude.{◌≡◌, List, [], ◌∷◌, ◌++◌};
 ghost use Rattle.recording.specs.Telling.{Recorded, recorded};
+ghost use Rattle.words.specs.declared.calls.CallRefusal.TheVariants.{Recording, Load};
 ghost use Rattle.words.specs.Calls.{Answers};
 ghost use Rattle.words.specs.Runs.{Settles};
 
@@ -24,16 +25,39 @@ pub enum Call<'a> {
     Load(&'a [u32]),
 }
 
-/// What a call answers: a start nothing, an operation its number, a load the count of operations; or why it is refused.
-#[derive(Clone, Copy)]
+/// What an accepted call answers: a start nothing, an operation its number, a load the count of operations.
+#[derive(Clone, Copy, PartialEq, Eq, Debug)]
 pub enum Answer {
-    Started(Result<(), Refusal>),
-    Told(Result<usize, Refusal>),
-    Loaded(Result<usize, LoadRefusal>),
+    Started,
+    Told(usize),
+    Loaded(usize),
+}
+
+/// Why a call is refused: by the recording, or as a load.
+#[derive(Clone, Copy, PartialEq, Eq, Debug)]
+pub enum CallRefusal {
+    Recording(Refusal),
+    Load(LoadRefusal),
+}
+
+impl From<Refusal> for CallRefusal {
+    ghost from_gives = { λ refusal call. call ≡ Recording refusal };
+
+    fn from(refusal: Refusal) -> CallRefusal {
+        CallRefusal::Recording(refusal)
+    }
+}
+
+impl From<LoadRefusal> for CallRefusal {
+    ghost from_gives = { λ refusal call. call ≡ Load refusal };
+
+    fn from(refusal: LoadRefusal) -> CallRefusal {
+        CallRefusal::Load(refusal)
+    }
 }
 
 /// Tells a recording one call. What earlier calls settled, and this one, settle what it holds then.
-pub fn tell(recording: &mut Recording, call: Call<'_>) -> Answer
+pub fn tell(recording: &mut Recording, call: Call<'_>) -> Result<Answer, CallRefusal>
     ensures answer { Answers (recorded recording.old) call.entry result (recorded recording.new) }
     ensures settles { (calls : List Call) → Settles calls (recorded recording.old) → Settles (calls ++ call.entry ∷ []) (recorded recording.new) }
 {
@@ -47,27 +71,30 @@ pub fn told(calls: &[Call<'_>]) -> Recording
 {
     let mut recording = Recording::unstarted();
     for call in calls {
-        tell(&mut recording, *call);
+        let _ = tell(&mut recording, *call);
     }
     recording
 }
 
 // Hands a call on to the recording.
-fn hand_on(recording: &mut Recording, call: Call<'_>) -> Answer
+fn hand_on(recording: &mut Recording, call: Call<'_>) -> Result<Answer, CallRefusal>
     ensures { Answers (recorded recording.old) call.entry result (recorded recording.new) }
 {
-    match call {
-        Call::Start(stations) => Answer::Started(recording.start(stations)),
+    Ok(match call {
+        Call::Start(stations) => {
+            recording.start(stations)?;
+            Answer::Started
+        }
         Call::Write {
             station,
             register,
             value,
-        } => Answer::Told(recording.write(station, register, value)),
+        } => Answer::Told(recording.write(station, register, value)?),
         Call::Read {
             station,
             register,
             value,
-        } => Answer::Told(recording.read(station, register, value)),
-        Call::Load(words) => Answer::Loaded(load(recording, words)),
-    }
+        } => Answer::Told(recording.read(station, register, value)?),
+        Call::Load(words) => Answer::Loaded(load(recording, words)?),
+    })
 }

@@ -10,7 +10,7 @@ pub mod reader;
 pub mod record;
 pub mod saving;
 
-pub use calls::{Answer, Call, tell, told};
+pub use calls::{Answer, Call, CallRefusal, tell, told};
 pub use fault::{Fault, Misread};
 pub use loading::{LoadRefusal, load};
 pub use reader::Reader;
