@@ -1,5 +1,5 @@
 -- What grows from visibility among what an operation sees is what has happened before what.
-use Rattle.std.proofs.Common.{◌≡◌, ℕ, ◌<◌, ◌≤◌, true, ◌&&◌, ltb, List, map, length, sym, ap, ◌∙◌, subst, inl, inr, ⊎_elim, arith}
+use Rattle.std.proofs.Common.{◌≡◌, ℕ, ◌<◌, true, ◌&&◌, ltb, List, map, length, sym, ap, ◌∙◌, subst, inl, inr, ⊎_elim, arith}
 use Rattle.std.proofs.lemmas.List.{length-map, get_or-map}
 use Rattle.std.proofs.lemmas.Bool.{and_parts, and_from, lt-ltb, ltb-true}
 use Rattle.recording.specs.declared.operation.Operation.{Operation}
@@ -19,8 +19,8 @@ demand_wider : (R : Rel) (f : List Shape) (u v : Rel) → Inside u v → (a b : 
 demand_wider R f u v i a b (inl t) = inl (t.0, i a t.0 t.1, i t.0 b t.2)
 demand_wider R f u v i a b (inr d) = inr (record { inside = d.inside; is_write = d.is_write; register = d.register; other = d.other; read = d.read; source = d.source; before = i a d.read d.before })
 
-module _ (ops : List Operation) (few : length ops ≤ 256) (V : Rel) (o : ℕ) (inside : o < length ops) (within : (a b : ℕ) → V a b ≡ true → (a < length ops) × (b < length ops)) (words t : List ℕ) (readers : Readers ops o (length ops) words)
-    (past : PastTable ops V o 256 t) (Q : Rel) (least : Least (Asked (HappeningDemand (related words)) (map shape ops)) (related t) Q) where
+module _ (ops : List Operation) (V : Rel) (o : ℕ) (inside : o < length ops) (within : (a b : ℕ) → V a b ≡ true → (a < length ops) × (b < length ops)) (words t : List ℕ) (readers : Readers ops o (length ops) words)
+    (past : PastTable ops V o t) (Q : Rel) (least : Least (Asked (HappeningDemand (related words)) (map shape ops)) (related t) Q) where
   shapes : length (map shape ops) ≡ length ops
   shapes = length-map ops shape
 
@@ -44,7 +44,7 @@ module _ (ops : List Operation) (few : length ops ≤ 256) (V : Rel) (o : ℕ) (
   on_operations : (a b : ℕ) → In Q a b → (a < length ops) × (b < length ops)
   on_operations a b h =
       let c = least.least cut
-      (λ x y p. let z = past.sound x y p in cut_made x y (least.holds x y p) z.1.inside z.2.inside)
+      (λ x y p. let z = past.sound x y p in cut_made x y (least.holds x y p) z.0.inside z.1.inside)
       (λ x y q. cut_made x y (least.closed x y (record { first = q.first; second = q.second; demanded = demand_wider (related words) (map shape ops) cut Q cut_inside x y q.demanded }))
       (let n = shapes in let l = q.first in omega arith) (let n = shapes in let l = q.second in omega arith)) a b h in
       let z = and_parts (ltb a (length ops)) (ltb b (length ops)) (and_parts (Q a b) (ltb a (length ops) && ltb b (length ops)) c).1 in
@@ -87,10 +87,10 @@ module _ (ops : List Operation) (few : length ops ≤ 256) (V : Rel) (o : ℕ) (
     within = on_operations;
     happens = record {
       transitive = λ a b c h k. asked a c (on_operations a b h).0 (on_operations b c k).1 (inl (b, h, k));
-      past = λ a b h k v. let l = past_inside a h in least.holds a b (past.whole a b (omega arith) (record { inside = l; past = h }) (record { inside = past_inside b k; past = k }) v);
+      past = λ a b h k v. least.holds a b (past.whole a b (record { inside = past_inside a h; past = h }) (record { inside = past_inside b k; past = k }) v);
       derived = λ r w x k v. asked x w v.sees.is_write.inside v.source.gives.is_write.inside (inr (derives r w x k v));
     };
-    least = λ u k. least.least u (λ a b p. let z = past.sound a b p in k.past a b z.1.past z.2.past z.3)
+    least = λ u k. least.least u (λ a b p. let z = past.sound a b p in k.past a b z.0.past z.1.past z.2)
         (λ a b q.
         let n = shapes in
         let first : a < length ops = let l = q.first in omega arith in

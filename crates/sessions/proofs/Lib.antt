@@ -1,3 +1,2 @@
 pub mod Sessions
-pub mod Pasts
 pub mod Happenings

@@ -1,5 +1,6 @@
 -- A recording is explained by sessions exactly when there is no violation.
 use Rattle.std.proofs.Common.{◌≡◌, ℕ, zero, suc, ◌+◌, ◌<◌, ◌≤◌, Bool, true, false, not, ◌&&◌, ◌||◌, ltb, ◌≢◌, ◌⊎◌, List, [], ◌∷◌, map, length, sym, refl, ap, ◌∙◌, subst, inl, inr, ⊎_elim, arith}
+use mathlib.Core.Logic.Dec
 use mathlib.Core.Bool.{decide, decide_iff}
 use native.Mathlib.Decide.{ℕ_discrete, dec_lt}
 use Rattle.std.proofs.lemmas.List.{length-map, get_or-map}
@@ -15,7 +16,7 @@ use Rattle.visibility.specs.Visible.{Asked, CausalDemand, IsLeast}
 use Rattle.violations.specs.Explained.{Valid, In, Reads, Writes}
 use Rattle.violations.specs.Violations.{Rival, BadRead, OwnClean}
 use Rattle.violations.proofs.Deciding.{reads_source, reads_order, reads_air, reads_init}
-use Rattle.violations.proofs.Decisions.{dec_and, dec_not, dec_iff, dec_read, find_source}
+use Rattle.violations.proofs.Decisions.{dec_read, find_source}
 use Rattle.sessions.specs.Listings.{Transitive, CausalOrder, Past, StationRead, Listing, SessionExplains}
 use Rattle.sessions.specs.Happening.{Last, Happens, HappensBefore, HbInitRead, CyclicHb}
 
@@ -42,7 +43,7 @@ dec_holds (x ∷ l) a = dec_or (ℕ_discrete x a) (dec_holds l a)
 
 dec_precedes : (l : List ℕ) (a b : ℕ) → Dec (Precedes l a b)
 dec_precedes [] a b = no (λ h. h)
-dec_precedes (x ∷ l) a b = dec_or (dec_and (ℕ_discrete x a) (dec_holds l b)) (dec_precedes l a b)
+dec_precedes (x ∷ l) a b = dec_or (Dec.and (ℕ_discrete x a) (dec_holds l b)) (dec_precedes l a b)
 
 -- ── An explained recording has no violation ──
 
@@ -147,7 +148,7 @@ module _ (ops : List Operation) where
 
   find_end : (k o : ℕ) → o < length ops → length ops ≤ k + o → EndOf o
   find_end zero o h g = absurd (omega arith)
-  find_end (suc k) o h g = go (dec_below Later (λ b. dec_and (dec_lt o b) (ℕ_discrete (at ops b).station (at ops o).station)) (length ops)) (λ b i j. find_end k b i j)
+  find_end (suc k) o h g = go (dec_below Later (λ b. Dec.and (dec_lt o b) (ℕ_discrete (at ops b).station (at ops o).station)) (length ops)) (λ b i j. find_end k b i j)
     where
       Later : ℕ → Type 0
       Later b = (o < b) × ((at ops b).station ≡ (at ops o).station)
@@ -333,8 +334,8 @@ module _ (ops : List Operation) (V : Rel) (L : IsLeast CausalDemand ops V) (own 
 
     pub dec_put : (a b : ℕ) → Dec (Put a b)
     dec_put a b =
-        dec_or (dec_true (H a b)) (dec_and (dec_iff {A = IsRead ops a × ((at ops a).station ≡ (at ops z).station)} (λ q. record { is_read = q.0; station = q.1 }) (λ q. (q.is_read, q.station))
-        (dec_and (dec_read ops a) (ℕ_discrete (at ops a).station (at ops z).station))) (dec_and (dec_not (ℕ_discrete b a)) (dec_not (dec_true (H b a)))))
+        dec_or (dec_true (H a b)) (Dec.and (Dec.of_iff {P = IsRead ops a × ((at ops a).station ≡ (at ops z).station)} (λ q. record { is_read = q.0; station = q.1 }, λ q. (q.is_read, q.station))
+        (Dec.and (dec_read ops a) (ℕ_discrete (at ops a).station (at ops z).station))) (Dec.and (Dec.not (ℕ_discrete b a)) (Dec.not (dec_true (H b a)))))
 
 -- what has happened before what for o, of which neither violation 6 nor 7 holds
 abbrev pub Cleared : List Operation → Rel → ℕ → Type 0

@@ -34,11 +34,11 @@ pub record PastOperation (ops : List Operation) (V : Rel) (o a : ℕ) : Type 0 w
   pub inside : a < length ops
   pub past : Past V o a
 
--- a table holds V among these, in the rows below n, and nothing else
-pub record PastTable (ops : List Operation) (V : Rel) (o n : ℕ) (t : List ℕ) : Type 0 where
+-- a table holds V among these, and nothing else
+pub record PastTable (ops : List Operation) (V : Rel) (o : ℕ) (t : List ℕ) : Type 0 where
   pub long : length t ≡ 1024
-  pub sound : (a b : ℕ) → related t a b ≡ true → (a < n) × PastOperation ops V o a × PastOperation ops V o b × (V a b ≡ true)
-  pub whole : (a b : ℕ) → a < n → PastOperation ops V o a → PastOperation ops V o b → V a b ≡ true → related t a b ≡ true
+  pub sound : (a b : ℕ) → related t a b ≡ true → PastOperation ops V o a × PastOperation ops V o b × (V a b ≡ true)
+  pub whole : (a b : ℕ) → PastOperation ops V o a → PastOperation ops V o b → V a b ≡ true → related t a b ≡ true
 
 -- an operation, a visibility of operations, and a table of 1,024 words
 pub record Grounded (ops : List Operation) (V : Rel) (o : ℕ) (t : List ℕ) : Type 0 where

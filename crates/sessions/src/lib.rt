@@ -6,10 +6,10 @@ pub mod happening;
 pub mod listed;
 pub mod past;
 pub mod stale;
+pub mod station_view;
 pub mod stations;
 
 pub use happening::Happening;
 pub use listed::Listed;
-pub use past::{past_of, put_happened};
-pub use stale::{cyclic_hb, hb_init_read};
+pub use station_view::StationView;
 pub use stations::{is_station_read, station_reads};

@@ -29,11 +29,5 @@ impl Relation for Listed<'_> {
 fn others(happened: Table<'_>, a: usize) -> Row
     ensures { (b : ℕ) → member result b ≡ (nat_lt b 256 && (not (b == a) && not (related happened.entry.words.now b a))) }
 {
-    let mut row = Row::empty();
-    for b in 0..256 {
-        if b != a && !happened.pair(b, a) {
-            row = row.with(b);
-        }
-    }
-    row
+    Row::below(256).without(a).filter(|b| !happened.pair(b, a))
 }

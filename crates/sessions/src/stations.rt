@@ -8,39 +8,27 @@ ghost use Rattle.sessions.specs.Listings.{StationRead};
 use recording::{Kind, Recording};
 use rows::Row;
 
-// The station of an operation; 0 where there is none of that number.
-fn station_of(recording: &Recording, number: usize) -> u8
-    ensures { result ≡ (at (recorded recording.now).operations number).station }
+/// The reads of the station of an operation.
+pub fn station_reads(recording: &Recording, other: usize) -> Row
+    ensures { (k : ℕ) → Decides (member result k) (StationRead (recorded recording.now).operations other k) }
 {
-    match recording.operation(number) {
-        Some(operation) => operation.station,
-        None => 0,
-    }
+    Row::below(recording.count()).filter(|number| is_station_read(recording, other, number))
 }
 
 /// Whether a number names a read of the station of another operation.
 pub fn is_station_read(recording: &Recording, other: usize, number: usize) -> bool
     ensures { Decides result (StationRead (recorded recording.now).operations other number) }
 {
-    let station = station_of(recording, other);
-    match recording.operation(number) {
-        Some(operation) => match operation.kind {
-            Kind::Read => operation.station == station,
-            Kind::Write => false,
-        },
-        None => false,
-    }
+    recording.operation(number).is_some_and(|operation| {
+        operation.kind == Kind::Read && operation.station == station_of(recording, other)
+    })
 }
 
-/// The reads of the station of an operation.
-pub fn station_reads(recording: &Recording, other: usize) -> Row
-    ensures { (k : ℕ) → Decides (member result k) (StationRead (recorded recording.now).operations other k) }
+// The station of an operation; 0 where there is none of that number.
+fn station_of(recording: &Recording, number: usize) -> u8
+    ensures { result ≡ (at (recorded recording.now).operations number).station }
 {
-    let mut reads = Row::empty();
-    for number in 0..recording.count() {
-        if is_station_read(recording, other, number) {
-            reads = reads.with(number);
-        }
-    }
-    reads
+    recording
+        .operation(number)
+        .map_or(0, |operation| operation.station)
 }

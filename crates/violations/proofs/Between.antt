@@ -9,7 +9,7 @@ use Rattle.visibility.specs.Growth.{Rel}
 use Rattle.violations.specs.Explained.{Writes}
 
 module _ (ops : List Operation) (V : Rel) (M : ℕ → Bool) (d : (k : ℕ) → Decides (M k) (IsWrite ops k)) where
-  abbrev Narrow : ℕ → ℕ → Type 0
+  abbrev pub Narrow : ℕ → ℕ → Type 0
   Narrow x y = (M x && (M y && V x y)) ≡ true
 
   pub narrow_writes : (a b : ℕ) → Narrow a b → Writes ops V a b
@@ -21,8 +21,6 @@ module _ (ops : List Operation) (V : Rel) (M : ℕ → Bool) (d : (k : ℕ) → 
   pub writes_narrow : (a b : ℕ) → Writes ops V a b → Narrow a b
   writes_narrow a b h = and_from (M a) (M b && V a b) ((d a).1 h.0) (and_from (M b) (V a b) ((d b).1 h.1) h.2)
 
-  pub narrow_steps : (a b : ℕ) → Steps Narrow a b → Steps (Writes ops V) a b
-  narrow_steps a b s = steps_wider (λ x y h. one (narrow_writes x y h)) s
-
-  pub steps_narrow : (a b : ℕ) → Steps (Writes ops V) a b → Steps Narrow a b
-  steps_narrow a b s = steps_wider (λ x y h. one (writes_narrow x y h)) s
+  -- what steps of the narrow relation lead to, steps between writes lead to
+  pub narrow_decides : (a b : ℕ) (x : Bool) → Decides x (Steps Narrow a b) → Decides x (Steps (Writes ops V) a b)
+  narrow_decides a b x e = (λ h. steps_wider (λ x y k. one (narrow_writes x y k)) (e.0 h), λ s. e.1 (steps_wider (λ x y k. one (writes_narrow x y k)) s))

@@ -2,6 +2,7 @@
 use Rattle.std.proofs.Common.{◌≡◌, ℕ, ◌≢◌, ◌⊎◌, List, length, sym, refl, ◌∙◌, subst, inl, inr, ⊎_elim, arith}
 use native.Mathlib.Decide.{ℕ_discrete}
 use Rattle.recording.specs.declared.operation.Operation.{Operation}
+use Rattle.recording.specs.Lawful.{Apart}
 use Rattle.recording.specs.Operations.{at, IsWrite, IsRead, SourceOf}
 use Rattle.relation.specs.Steps.{Holds, Once, Precedes, Steps, one, more, Acyclic}
 use Rattle.relation.proofs.Extending.{dec_or, steps_join, steps_wider, steps_precede, precedes_asym, precedes_irrefl, Extended, extend}
@@ -11,14 +12,20 @@ use Rattle.violations.specs.Explained.{Demand, Valid, In, SeesOf, ReadsLast, Rea
 use Rattle.violations.specs.Violations.{ThinAir, InitialRead, Rival, BadRead, Conflict, Arbitration, OwnClean, SharedClean}
 use Rattle.violations.proofs.Decisions.{find_source, dec_writes, dec_rival, dec_write}
 
+-- ── Sources ──
+
+-- a read has one source
+pub one_source : (ops : List Operation) → Apart ops → (a b r : ℕ) → SourceOf ops a r → SourceOf ops b r → a ≡ b
+one_source ops apart a b r s t =
+    apart a b (record { first = s.gives.is_write; second = t.gives.is_write; register = s.gives.register ∙ sym t.gives.register; value = s.gives.value ∙ sym t.gives.value })
+
 -- ── An explained recording has no violation ──
 
 module _ (ops : List Operation) (valid : Valid ops) where
   module _ (R : ℕ → ℕ → Type 0) (o : List ℕ) where
     -- the write that explains a read is its source
     pub last_is_source : (w r : ℕ) (g : ReadsLast ops R o r) → SourceOf ops w r → g.last ≡ w
-    last_is_source w r g s =
-        valid.apart g.last w (record { first = g.sees.is_write; second = s.gives.is_write; register = g.sees.register ∙ sym s.gives.register; value = g.value ∙ sym s.gives.value })
+    last_is_source w r g s = one_source ops valid.apart g.last w r (record { is_read = s.is_read; gives = record { is_write = g.sees.is_write; register = g.sees.register; value = g.value } }) s
 
     -- a read that has a source does not read 0
     pub source_nonzero : (w r : ℕ) → SourceOf ops w r → (at ops r).value ≢ 0
@@ -129,14 +136,8 @@ module _ (ops : List Operation) (valid : Valid ops) (V : Rel) (c : OwnClean ops 
       go (no n) = writes_acyclic a (steps_wider (λ x y. ⊎_elim one (λ k. absurd (n (y, k.source)))) s)
       go (yes z) =
           let w = z.0 in
-          let only : (y : ℕ) → SourceOf ops y r → y ≡ w = λ y k. valid.apart y w (record {
-            first = k.gives.is_write;
-            second = z.1.gives.is_write;
-            register = k.gives.register ∙ sym z.1.gives.register;
-            value = k.gives.value ∙ sym z.1.gives.value;
-          }) in
           toward_acyclic (Writes ops V) (Rival ops V r w) w (λ k. k.other refl) writes_acyclic (λ x k t. c.badread r w x (record { rival = k; steps = t })) a
-          (steps_wider (λ x y. ⊎_elim (λ h. one (inl h)) (λ k. let e = only y k.source in one (inr (e, subst (λ q. Rival ops V r q x) e k)))) s)
+          (steps_wider (λ x y. ⊎_elim (λ h. one (inl h)) (λ k. let e = one_source ops valid.apart y w r k.source z.1 in one (inr (e, subst (λ q. Rival ops V r q x) e k)))) s)
 
   -- a read has a source, or reads its register's first value
   read_cases : (r : ℕ) → IsRead ops r → ((w : ℕ) × SourceOf ops w r) ⊎ InitialRead ops r

@@ -1,8 +1,11 @@
 -- What is not found below a number, and what is found first.
-use Rattle.std.proofs.Common.{◌≡◌, ℕ, ◌+◌, ◌<◌, Bool, ◌&&◌, Some, None, Decides, Option, sym, ◌∙◌, subst, inl, inr, true≢false, arith}
-use Rattle.std.proofs.lemmas.Bool.{cases_eq, and_parts, and_from}
-use Rattle.rows.specs.Members.{First}
-use Rattle.violations.specs.Firsts.{Smallest}
+use Rattle.std.proofs.Common.{◌≡◌, ℕ, ◌+◌, ◌<◌, Bool, true, false, ◌&&◌, Some, None, Decides, Option, sym, refl, ◌∙◌, subst, inl, inr, true≢false, arith}
+use Rattle.std.proofs.lemmas.Bool.{cases_eq, and_parts}
+use Rattle.rows.specs.declared.row.Row.{Row}
+use Rattle.rows.specs.Members.{member, First}
+use Rattle.violations.specs.declared.evidence.Rivals.{Rivals}
+use Rattle.violations.specs.Firsts.{Smallest, SmallestRivals}
+use Rattle.violations.specs.Overtaking.{Says, FoundRival, FoundRivals}
 
 -- one number more, for pairs by the first number
 pub none_more : (P : ℕ → ℕ → Type 0) (n : ℕ) → ((k l : ℕ) → k < n → ¬ P k l) → ((l : ℕ) → ¬ P n l) → (k l : ℕ) → k < n + 1 → ¬ P k l
@@ -11,11 +14,38 @@ none_more P n before here k l h = elim (cases_eq k n) [
   | inr e ↦ before k l (omega arith)
 ]
 
--- the first member of a set that a test decides
-pub smallest_first : (P : ℕ → Type 0) (T : ℕ → Bool) → ((k : ℕ) → Decides (T k) (P k)) → (r : Option ℕ) → First T r → Smallest P r
-smallest_first P T d None f = λ k p. true≢false (sym ((d k).1 p) ∙ f k)
-smallest_first P T d (Some n) f = ((d n).0 f.1, λ k h p. true≢false (sym ((d k).1 p) ∙ f.2 k h))
+-- the first member of which a test says yes, as `Found` has it
+abbrev pub FoundFirst : (ℕ → Bool) → (ℕ → Type 0) → (ℕ → Type 0) → Option ℕ → Type 0
+FoundFirst M Yes No None = (k : ℕ) → M k ≡ true → No k
+FoundFirst M Yes No (Some b) = (M b ≡ true) × Yes b × ((k : ℕ) → k < b → M k ≡ true → No k)
 
--- two tests at once
-pub decides_both : (s t u : Bool) (P Q : Type 0) → u ≡ (s && t) → Decides s P → Decides t Q → Decides u (P × Q)
-decides_both s t u P Q e p q = (λ h. let z = and_parts s t (sym e ∙ h) in (p.0 z.0, q.0 z.1), λ h. e ∙ and_from s t (p.1 h.0) (q.1 h.1))
+-- is the smallest number with P, where the test decides P, and P holds of members only
+pub smallest_found : (P : ℕ → Type 0) (M : ℕ → Bool) (Yes No : ℕ → Type 0) (r : Option ℕ) → FoundFirst M Yes No r → ((k : ℕ) → P k → M k ≡ true) → ((k : ℕ) → Yes k → P k) → ((k : ℕ) → No k → ¬ P k) → Smallest P r
+smallest_found P M Yes No None f m y n = λ k p. n k (f k (m k p)) p
+smallest_found P M Yes No (Some b) f m y n = (y b f.1, λ k h p. n k (f.2 k h (m k p)) p)
+
+-- where the answered rows decide A, what they lack is not A
+lacked : (A : ℕ → Type 0) (Answered : Row → Type 0) → ((row : Row) → Answered row → (x : ℕ) → Decides (member row x) (A x)) → (x : ℕ) → Says Answered x false → ¬ A x
+lacked A Answered d x s a = true≢false (sym ((d s.0 s.1 x).1 a) ∙ s.2)
+
+-- the first rivals in the answered rows, where these decide A, are the first of P and A
+pub smallest_rivals : (Q P : ℕ → ℕ → ℕ → Type 0) (A : ℕ → ℕ → Type 0) (Answered : ℕ → Row → Type 0) (t : Option Rivals) → FoundRivals P Answered t
+    → ((r w x : ℕ) → P r w x → A w x → Q r w x) → ((r w x : ℕ) → Q r w x → P r w x × A w x) → ((w : ℕ) (row : Row) → Answered w row → (x : ℕ) → Decides (member row x) (A w x)) → SmallestRivals Q t
+smallest_rivals Q P A Answered None f q p d = λ r w x h. let z = p r w x h in lacked (A w) (Answered w) (d w) x (f r w x z.0) z.1
+smallest_rivals Q P A Answered (Some t) f q p d = (
+  q t.read t.source t.rival f.0 (let s = f.1 in (d t.source s.0 s.1 t.rival).0 s.2),
+  λ r w x l h. let z = p r w x h in lacked (A w) (Answered w) (d w) x (f.2 r w x l z.0) z.1,
+  λ w x l h. let z = p t.read w x h in lacked (A w) (Answered w) (d w) x (f.3 w x l z.0) z.1,
+)
+
+-- where both are not, and the second is, the first is not
+first_not : (a b : Bool) → (a && b) ≡ false → b ≡ true → a ≡ false
+first_not true b h e = sym e ∙ h
+first_not false b h e = refl
+
+-- the first number that both sets have is the smallest rival in the answered row
+pub rival_found : (P : ℕ → Type 0) (Answered : Row → Type 0) (row : Row) (M B : ℕ → Bool) (r : Option ℕ) → First B r → ((k : ℕ) → B k ≡ (member row k && M k)) → ((k : ℕ) → Decides (M k) (P k)) → Answered row → FoundRival P Answered r
+rival_found P Answered row M B None f e d a = λ x p. (row, a, first_not (member row x) (M x) (sym (e x) ∙ f x) ((d x).1 p))
+rival_found P Answered row M B (Some n) f e d a =
+    let z = and_parts (member row n) (M n) (sym (e n) ∙ f.1) in
+    ((d n).0 z.1, (row, a, z.0), λ y l p. (row, a, first_not (member row y) (M y) (sym (e y) ∙ f.2 y l) ((d y).1 p)))

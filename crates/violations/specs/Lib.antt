@@ -1,4 +1,6 @@
 pub mod Explained
 pub mod Violations
+pub mod Views
 pub mod Firsts
+pub mod Overtaking
 pub mod Tabled

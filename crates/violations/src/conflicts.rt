@@ -1,38 +1,35 @@
 //! Which write has to come before which, for the sake of a read.
 ghost use Rattle.std.specs.Prelude.{◌≡◌, ◌+◌, ◌<◌, length, ◌≢◌};
-ghost use Rattle.recording.specs.Telling.{recorded};
-ghost use Rattle.rows.specs.Members.{related};
 ghost use Rattle.violations.specs.Tabled.{Tabled};
+ghost use Rattle.violations.specs.Views.{operations_of, seen_of};
 
-use crate::rivals::rivals_of;
-use recording::Recording;
+use crate::view::View;
 use rows::{Table, clear, put_row};
 
-/// Makes a table of 1,024 words hold (x, w) for each conflict, and nothing else. Words of another length are left as they are.
-pub fn put_conflicts(recording: &Recording, seen: Table<'_>, table: &mut [u64])
-    ensures conflicts { length table.old ≡ 1024 → Tabled (recorded recording.now).operations (related seen.entry.words.now) (length (recorded recording.now).operations) 0 table.new }
-    ensures unfit { length table.old ≢ 1024 → table.new ≡ table.old }
-{
-    if table.len() == 1024 {
-        clear(table);
-        for read in 0..recording.count() {
-            put_rivals(recording, seen, table, read);
+impl View<'_> {
+    /// Makes a table of 1,024 words hold (x, w) for each conflict, and nothing else. Words of another length are left as they are.
+    pub fn put_conflicts(self, table: &mut [u64])
+        ensures conflicts { length table.old ≡ 1024 → Tabled (operations_of self.entry) (seen_of self.entry) (length (operations_of self.entry)) table.new }
+        ensures unfit { length table.old ≢ 1024 → table.new ≡ table.old }
+    {
+        if table.len() == 1024 {
+            clear(table);
+            for read in 0..self.recording.count() {
+                self.put_rivals(read, table);
+            }
         }
     }
-}
 
-// Adds the conflicts of one number, if it names a read with a source.
-fn put_rivals(recording: &Recording, seen: Table<'_>, table: &mut [u64], read: usize)
-    requires tabled { Tabled (recorded recording.now).operations (related seen.words.now) read 0 table.old }
-    requires inside { read < length (recorded recording.now).operations }
-    ensures { Tabled (recorded recording.now).operations (related seen.entry.words.now) (read + 1) 0 table.new }
-{
-    let Ok(Some(source)) = recording.source(read) else {
-        return;
-    };
-    let rivals = rivals_of(recording, seen, read, source);
-    for other in 0..256 {
-        if rivals.contains(other) {
+    // Adds the conflicts of one number, if it names a read with a source.
+    fn put_rivals(self, read: usize, table: &mut [u64])
+        requires { Tabled (operations_of self) (seen_of self) read table.old }
+        ensures { Tabled (operations_of self.entry) (seen_of self.entry) (read + 1) table.new }
+    {
+        let Ok(Some(source)) = self.recording.source(read) else {
+            return;
+        };
+        let rivals = self.rivals_of(read, source);
+        for other in rivals.members() {
             let row = Table { words: table }.row(other).with(source);
             put_row(table, other, row);
         }

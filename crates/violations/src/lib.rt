@@ -5,12 +5,11 @@ pub mod conflicts;
 pub mod evidence;
 pub mod overtaken;
 pub mod rivals;
-pub mod sight;
 pub mod sourceless;
+pub mod view;
+pub mod written;
 
-pub use conflicts::put_conflicts;
 pub use evidence::{Pair, Rivals};
-pub use overtaken::bad_read;
-pub use rivals::forced;
-pub use sight::{sees, writes};
-pub use sourceless::{bad_init_read, is_initial_read, thin_air};
+pub use sourceless::{is_initial_read, thin_air};
+pub use view::View;
+pub use written::writes;

@@ -1,59 +1,65 @@
-//! Reads that see a write after the one whose value they have. Asks where the steps between writes lead from the source
-//! of each read that sees another write of its register.
-ghost use Rattle.std.specs.Prelude.{ℕ, Decides};
-ghost use Rattle.recording.specs.Operations.{IsWrite, SourceOf};
-ghost use Rattle.recording.specs.Telling.{recorded};
-ghost use Rattle.rows.specs.Members.{member, related};
-ghost use Rattle.violations.specs.Firsts.{Smallest, SmallestRivals};
-ghost use Rattle.violations.specs.Violations.{BadRead};
+//! Reads that see a write after the one whose value they have: first the other writes of its register that a read sees, and
+//! only if there are any, what comes after its source.
+ghost use Rattle.std.specs.Prelude.{◌≡◌, true};
+ghost use Rattle.recording.specs.Operations.{SourceOf};
+ghost use Rattle.rows.specs.Members.{member};
+ghost use Rattle.violations.specs.Firsts.{SmallestRivals};
+ghost use Rattle.violations.specs.Overtaking.{FoundRival, FoundRivals};
+ghost use Rattle.violations.specs.Views.{operations_of, seen_of};
+ghost use Rattle.violations.specs.Violations.{Rival, BadRead};
 
 use crate::evidence::Rivals;
-use crate::rivals::rivals_of;
-use crate::sight::writes;
-use recording::Recording;
+use crate::view::View;
+use crate::written::writes;
 use relation::Narrowed;
 use relation::reach::reach;
-use rows::{Row, Table};
+use rows::Row;
 
-/// The smallest read that sees another write of its register to which steps between writes lead from its source,
-/// with the smallest such write.
-pub fn bad_read(recording: &Recording, seen: Table<'_>) -> Option<Rivals>
-    ensures { SmallestRivals (BadRead (recorded recording.now).operations (related seen.entry.words.now)) result }
-{
-    let mask = writes(recording);
-    for read in 0..recording.count() {
-        if let Ok(Some(source)) = recording.source(read) {
-            if let Some(rival) = overtaker(recording, seen, mask, read, source) {
-                return Some(Rivals {
-                    read,
-                    source,
-                    rival,
-                });
+impl View<'_> {
+    /// The smallest read that sees another write of its register to which steps between writes lead from its source,
+    /// with the smallest such write.
+    pub fn bad_read(self) -> Option<Rivals>
+        ensures { SmallestRivals (BadRead (operations_of self.entry) (seen_of self.entry)) result }
+    {
+        let between = Narrowed {
+            relation: self.seen,
+            mask: writes(self.recording),
+        };
+        self.overtaken(Row::below(self.recording.count()), |source| {
+            reach(&between, source)
+        })
+    }
+
+    /// The smallest of some reads that sees another write of its register that comes after its source, with the source and the
+    /// smallest such write.
+    pub fn overtaken<F: Fn(usize) -> Row>(self, reads: Row, after: F) -> Option<Rivals>
+        requires { F.IsAlwaysCallable after }
+        ensures { FoundRivals (λ r w x. (member reads r ≡ true) × Rival (operations_of self.entry) (seen_of self.entry) r w x) (λ w row. F.post after w row) result }
+    {
+        for read in reads.members() {
+            if let Ok(Some(source)) = self.recording.source(read) {
+                if let Some(rival) = self.overtaker(read, source, &after) {
+                    return Some(Rivals {
+                        read,
+                        source,
+                        rival,
+                    });
+                }
             }
         }
+        None
     }
-    None
-}
 
-// The smallest write that overtakes the source of a read.
-fn overtaker(
-    recording: &Recording,
-    seen: Table<'_>,
-    mask: Row,
-    read: usize,
-    source: usize,
-) -> Option<usize>
-    requires source { SourceOf (recorded recording.now).operations source read }
-    requires mask { (k : ℕ) → Decides (member mask k) (IsWrite (recorded recording.now).operations k) }
-    ensures { Smallest (BadRead (recorded recording.now).operations (related seen.entry.words.now) read source) result }
-{
-    let rivals = rivals_of(recording, seen, read, source);
-    if rivals.is_empty() {
-        return None;
+    // The smallest write that overtakes the source of a read.
+    fn overtaker<F: Fn(usize) -> Row>(self, read: usize, source: usize, after: &F) -> Option<usize>
+        requires source { SourceOf (operations_of self) source read }
+        requires after { F.IsAlwaysCallable after.now }
+        ensures { FoundRival (Rival (operations_of self.entry) (seen_of self.entry) read source) (λ row. F.post after.entry.now source row) result }
+    {
+        let rivals = self.rivals_of(read, source);
+        if rivals.is_empty() {
+            return None;
+        }
+        after(source).intersection(rivals).first()
     }
-    let between = Narrowed {
-        relation: seen,
-        mask,
-    };
-    reach(&between, source).intersection(rivals).first()
 }

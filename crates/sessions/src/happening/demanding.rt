@@ -1,5 +1,5 @@
 //! What the rule demands: what comes before what comes before, and a write before the source of a read that it is before.
-ghost use Rattle.std.specs.Prelude.{◌≡◌, ℕ, ◌<◌, true, length, Decides};
+ghost use Rattle.std.specs.Prelude.{ℕ, ◌<◌, length, Decides};
 ghost use Rattle.rows.specs.Members.{member, related};
 ghost use Rattle.visibility.specs.Shapes.{shapes_of};
 ghost use Rattle.sessions.specs.Deriving.{Derives, HappeningDemand};
@@ -46,13 +46,7 @@ impl Happening {
         requires { a < length (shapes_of outline.now) }
         ensures { (w : ℕ) → Decides (member result w) (Derives (related self.now.words) (shapes_of outline.now) (related seen.entry.words.now) a w) }
     {
-        let mut sources = Row::empty();
-        for source in 0..outline.count() {
-            if self.derives(outline, seen, a, source) {
-                sources = sources.with(source);
-            }
-        }
-        sources
+        Row::below(outline.count()).filter(|source| self.derives(outline, seen, a, source))
     }
 
     // Whether `a` is another write of the register of `source`, and before a read whose source that is.
@@ -71,16 +65,10 @@ impl Happening {
         write.kind == Kind::Write
             && write.register == other.register
             && a != source
-            && meet(readers.row(source), seen.row(a))
-    }
-}
-
-// Whether two sets have a number in common.
-fn meet(one: Row, other: Row) -> bool
-    ensures { Decides result ((k : ℕ) × (member one k ≡ true) × (member other k ≡ true)) }
-{
-    match one.intersection(other).first() {
-        Some(_) => true,
-        None => false,
+            && readers
+                .row(source)
+                .intersection(seen.row(a))
+                .first()
+                .is_some()
     }
 }

@@ -6,7 +6,7 @@ ghost use Rattle.sessions.specs.Deriving.{Readers};
 use crate::happening::Happening;
 use crate::stations::is_station_read;
 use recording::Recording;
-use rows::{Table, clear, put_row};
+use rows::{Table, put_row};
 
 impl Happening {
     /// The reads of the station of operation `last` that have a source.
@@ -14,7 +14,6 @@ impl Happening {
         ensures { Readers (recorded recording.now).operations last (length (recorded recording.now).operations) result.words }
     {
         let mut words = [0; 1024];
-        clear(&mut words);
         for read in 0..recording.count() {
             put_reader(recording, last, &mut words, read);
         }
@@ -27,11 +26,10 @@ fn put_reader(recording: &Recording, last: usize, words: &mut [u64], read: usize
     requires { Readers (recorded recording.now).operations last read words.old }
     ensures { Readers (recorded recording.now).operations last (read + 1) words.new }
 {
-    let Ok(Some(source)) = recording.source(read) else {
-        return;
-    };
     if is_station_read(recording, last, read) {
-        let row = Table { words }.row(source).with(read);
-        put_row(words, source, row);
+        if let Ok(Some(source)) = recording.source(read) {
+            let row = Table { words }.row(source).with(read);
+            put_row(words, source, row);
+        }
     }
 }

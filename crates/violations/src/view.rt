@@ -1,0 +1,37 @@
+//! A recording, and what its operations see.
+ghost use Rattle.std.specs.Prelude.{◌≡◌, Decides};
+ghost use Rattle.recording.specs.Operations.{at};
+ghost use Rattle.recording.specs.Telling.{recorded};
+ghost use Rattle.violations.specs.Explained.{In, SeesOf};
+ghost use Rattle.violations.specs.Views.{operations_of, seen_of};
+
+use recording::{Kind, Recording};
+use rows::Table;
+
+/// A recording, and what its operations see.
+#[derive(Clone, Copy)]
+pub struct View<'a> {
+    pub recording: &'a Recording,
+    pub seen: Table<'a>,
+}
+
+impl View<'_> {
+    /// Whether a number names a write of `read`'s register that `read` sees.
+    pub fn sees(self, read: usize, write: usize) -> bool
+        ensures { Decides result (SeesOf (operations_of self.entry) (In (seen_of self.entry)) read write) }
+    {
+        self.seen.pair(write, read)
+            && self.recording.operation(write).is_some_and(|writer| {
+                writer.kind == Kind::Write && writer.register == register_of(self.recording, read)
+            })
+    }
+}
+
+// The register of an operation; 0 where there is none of that number.
+fn register_of(recording: &Recording, number: usize) -> u8
+    ensures { result ≡ (at (recorded recording.now).operations number).register }
+{
+    recording
+        .operation(number)
+        .map_or(0, |operation| operation.register)
+}
