@@ -15,7 +15,7 @@ use Rattle.visibility.specs.Shapes.{shape, shape_at, no_shape, before}
 use Rattle.visibility.specs.Visible.{Asked, CausalDemand, IsLeast}
 use Rattle.violations.specs.Explained.{Valid, In, Reads, Writes}
 use Rattle.violations.specs.Violations.{Rival, BadRead, OwnClean}
-use Rattle.violations.proofs.Deciding.{reads_source, reads_order, reads_air, reads_init}
+use Rattle.violations.proofs.Deciding.{sees_by, sees_source, lists_all, reads_source, reads_order, reads_air, reads_init}
 use Rattle.violations.proofs.Decisions.{dec_read, find_source}
 use Rattle.sessions.specs.Listings.{Transitive, CausalOrder, Past, StationRead, Listing, SessionExplains}
 use Rattle.sessions.specs.Happening.{Last, Happens, HappensBefore, HbInitRead, CyclicHb}
@@ -88,7 +88,7 @@ module _ (ops : List Operation) (valid : Valid ops) (V : Rel) (L : IsLeast Causa
     badinitread = λ r w t.
         let x = e.listings r t.initial_read.is_read.inside in
         reads_init ops valid (Precedes x.0) x.0 w r (own_reads r t.initial_read.is_read x.0 x.1) t.initial_read.value
-        (record { is_write = t.sees.is_write; register = t.sees.register; seen = stands r w x.0 x.1 (within_co w r t.sees.seen) });
+        (sees_by t.sees (stands r w x.0 x.1 (within_co w r t.sees.seen)));
     badread = λ r w x t. late r w x t (e.listings r t.rival.source.is_read.inside);
   }
     where
@@ -97,7 +97,7 @@ module _ (ops : List Operation) (valid : Valid ops) (V : Rel) (L : IsLeast Causa
           let seen = within_co x r t.rival.sees.seen in
           precedes_asym z.0 x w z.1.lists.once
           (reads_order ops valid (Precedes z.0) z.0 x w r (own_reads r t.rival.source.is_read z.0 z.1) t.rival.source
-          (record { is_write = t.rival.sees.is_write; register = t.rival.sees.register; seen = stands r x z.0 z.1 seen }) t.rival.other)
+          (sees_by t.rival.sees (stands r x z.0 z.1 seen)) t.rival.other)
           (z.1.keeps w x (inr (co_sources w r t.rival.source)) (inr seen) (writes_co t.steps))
 
   module _ (o : ℕ) (last : Last ops o) (l : List ℕ) (x : Listing ops co o l) where
@@ -111,7 +111,7 @@ module _ (ops : List Operation) (valid : Valid ops) (V : Rel) (L : IsLeast Causa
 
     -- what stands before a read stands before its source
     rival_order : (u : Rel) (r w y : ℕ) → StationRead ops o r → Rival ops u r w y → Precedes l y r → Precedes l y w
-    rival_order u r w y k v p = reads_order ops valid (Precedes l) l y w r (gives r k) v.source (record { is_write = v.sees.is_write; register = v.sees.register; seen = p }) v.other
+    rival_order u r w y k v p = reads_order ops valid (Precedes l) l y w r (gives r k) v.source (sees_by v.sees p) v.other
 
     to : (a b : ℕ) → In (placed l) a b → Precedes l a b
     to a b = (decide_iff (dec_precedes l a b)).0
@@ -134,7 +134,7 @@ module _ (ops : List Operation) (valid : Valid ops) (V : Rel) (L : IsLeast Causa
       ordered a b h = to a b (I.least (placed l) placed_happens a b h)
 
       pub no_init : (r y : ℕ) → ¬ HbInitRead ops o H r y
-      no_init r y t = reads_init ops valid (Precedes l) l y r (gives r t.own) t.value (record { is_write = t.sees.is_write; register = t.sees.register; seen = ordered y r t.sees.seen })
+      no_init r y t = reads_init ops valid (Precedes l) l y r (gives r t.own) t.value (sees_by t.sees (ordered y r t.sees.seen))
 
       pub no_cyclic : (r w y : ℕ) → ¬ CyclicHb ops o H r w y
       no_cyclic r w y t = precedes_asym l y w x.lists.once (rival_order H r w y t.own t.rival (ordered y r t.rival.sees.seen)) (ordered w y t.after)
@@ -221,7 +221,7 @@ module _ (ops : List Operation) (V : Rel) (L : IsLeast CausalDemand ops V) (own 
       transitive = λ a b c h k. join a b c (strict_is a b h) (strict_is b c k);
       past = λ a b h k v. is_strict a b (I.happens.past a b h k v) (inl v);
       derived = λ r w x k v.
-          let held : Rival ops H r w x = record { source = v.source; sees = record { is_write = v.sees.is_write; register = v.sees.register; seen = (strict_is x r v.sees.seen).0 }; other = v.other } in
+          let held : Rival ops H r w x = record { source = v.source; sees = sees_by v.sees ((strict_is x r v.sees.seen).0); other = v.other } in
           is_strict x w (I.happens.derived r w x k held) (inr (λ q. cyclic r w x (record { own = k; rival = held; after = q })));
     }
       where
@@ -312,15 +312,15 @@ module _ (ops : List Operation) (V : Rel) (L : IsLeast CausalDemand ops V) (own 
             r_past = station_past o r h g k.station
 
             go : Dec ((at ops r).value ≡ 0) → Dec ((w : ℕ) × SourceOf ops w r) → Reads ops (Precedes l) l r
-            go (yes e) d = inl (record { value = e; none = λ w s. init r w (record { own = kz; value = e; sees = record { is_write = s.is_write; register = s.register; seen = before_read r w kz s.seen } }) })
+            go (yes e) d = inl (record { value = e; none = λ w s. init r w (record { own = kz; value = e; sees = sees_by s (before_read r w kz s.seen) }) })
             go (no e) (no n) = absurd (own.thinair r (record { is_read = k.is_read; other = e; unwritten = λ w s. n (w, s) }))
             go (no e) (yes s) = inr (record {
               other = e;
               last = s.0;
-              sees = record { is_write = s.1.gives.is_write; register = s.1.gives.register; seen = put s.0 r w_past r_past (inl (v_in_h s.0 r w_past r_past wr)) };
+              sees = sees_source s.1 (put s.0 r w_past r_past (inl (v_in_h s.0 r w_past r_past wr)));
               value = s.1.gives.value;
               others = λ y t n. put y s.0 (listed.only y (precedes_left l y r t.seen)) w_past
-                  (inl (I.happens.derived r s.0 y kz (record { source = s.1; sees = record { is_write = t.is_write; register = t.register; seen = before_read r y kz t.seen }; other = n })));
+                  (inl (I.happens.derived r s.0 y kz (record { source = s.1; sees = sees_by t (before_read r y kz t.seen); other = n })));
             })
               where
                 wr : In V s.0 r
@@ -354,7 +354,7 @@ module _ (ops : List Operation) (valid : Valid ops) (V : Rel) (L : IsLeast Causa
           let x = extend (Past V o) (λ a. dec_or (ℕ_discrete a o) (dec_true (V a o))) (length ops) (Put ops V L own z last c.0 c.1 c.3) (dec_put ops V L own z last c.0 c.1 c.3)
           (put_acyclic ops V L own z last c.0 c.1 c.3) in
           let inside : (a : ℕ) → Past V o a → a < length ops = λ a p. ⊎_elim (λ q. subst (λ y. y < length ops) (sym q) h) (λ q. (L.within a o q).0) p in
-          let listed : Lists (Past V o) x.order = record { once = x.lists.once; holds = λ a p. x.lists.holds a (inside a p, p); only = λ a p. (x.lists.only a p).1 } in (
+          let listed : Lists (Past V o) x.order = lists_all inside x.lists in (
             x.order,
             listing ops V L own z last c.0 c.1 c.3 c.2 o h e.3 e.2 x.order listed (λ a b p q r. x.keeps a b (listed.holds a p) (listed.holds b q) r) valid,
           )

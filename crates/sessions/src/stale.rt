@@ -16,7 +16,7 @@ impl StationView<'_> {
     {
         let recording = self.view.recording;
         for read in 0..recording.count() {
-            if is_initial_read(recording, read) && is_station_read(recording, self.last, read) {
+            if is_station_read(recording, self.last, read) && is_initial_read(recording, read) {
                 if let Some(write) = first_before(self.view, read) {
                     return Some(Pair { read, write });
                 }

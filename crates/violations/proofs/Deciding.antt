@@ -1,10 +1,10 @@
 -- A recording is explained, with an order for each read or with one for all, exactly when there is no violation.
-use Rattle.std.proofs.Common.{◌≡◌, ℕ, ◌≢◌, ◌⊎◌, List, length, sym, refl, ◌∙◌, subst, inl, inr, ⊎_elim, arith}
+use Rattle.std.proofs.Common.{◌≡◌, ℕ, ◌<◌, ◌≢◌, ◌⊎◌, List, length, sym, refl, ◌∙◌, subst, inl, inr, ⊎_elim, arith}
 use native.Mathlib.Decide.{ℕ_discrete}
 use Rattle.recording.specs.declared.operation.Operation.{Operation}
 use Rattle.recording.specs.Lawful.{Apart}
 use Rattle.recording.specs.Operations.{at, IsWrite, IsRead, SourceOf}
-use Rattle.relation.specs.Steps.{Holds, Once, Precedes, Steps, one, more, Acyclic}
+use Rattle.relation.specs.Steps.{Once, Precedes, Lists, Steps, one, more, Acyclic}
 use Rattle.relation.proofs.Extending.{dec_or, steps_join, steps_wider, steps_precede, precedes_asym, precedes_irrefl, Extended, extend}
 use Rattle.visibility.specs.Growth.{Rel, Inside}
 use Rattle.visibility.specs.Visible.{IsLeast}
@@ -19,13 +19,30 @@ pub one_source : (ops : List Operation) → Apart ops → (a b r : ℕ) → Sour
 one_source ops apart a b r s t =
     apart a b (record { first = s.gives.is_write; second = t.gives.is_write; register = s.gives.register ∙ sym t.gives.register; value = s.gives.value ∙ sym t.gives.value })
 
+-- ── What is seen ──
+
+-- what is seen by one relation, seen by another
+pub sees_by : {ops : List Operation} {R S : ℕ → ℕ → Type 0} {r w : ℕ} → SeesOf ops R r w → S w r → SeesOf ops S r w
+sees_by s h = record { is_write = s.is_write; register = s.register; seen = h }
+
+pub sees_source : {ops : List Operation} {R : ℕ → ℕ → Type 0} {r w : ℕ} → SourceOf ops w r → R w r → SeesOf ops R r w
+sees_source s h = record { is_write = s.gives.is_write; register = s.gives.register; seen = h }
+
+-- the write that explains a read gives it its value
+last_gives : {ops : List Operation} {R : ℕ → ℕ → Type 0} {o : List ℕ} {r : ℕ} → IsRead ops r → (g : ReadsLast ops R o r) → SourceOf ops g.last r
+last_gives h g = record { is_read = h; gives = record { is_write = g.sees.is_write; register = g.sees.register; value = g.value } }
+
+-- a list of the numbers below n with P, where all with P are below n
+pub lists_all : {P : ℕ → Type 0} {n : ℕ} {o : List ℕ} → ((a : ℕ) → P a → a < n) → Lists (λ a. (a < n) × P a) o → Lists P o
+lists_all i l = record { once = l.once; holds = λ a h. l.holds a (i a h, h); only = λ a h. (l.only a h).1 }
+
 -- ── An explained recording has no violation ──
 
 module _ (ops : List Operation) (valid : Valid ops) where
   module _ (R : ℕ → ℕ → Type 0) (o : List ℕ) where
     -- the write that explains a read is its source
     pub last_is_source : (w r : ℕ) (g : ReadsLast ops R o r) → SourceOf ops w r → g.last ≡ w
-    last_is_source w r g s = one_source ops valid.apart g.last w r (record { is_read = s.is_read; gives = record { is_write = g.sees.is_write; register = g.sees.register; value = g.value } }) s
+    last_is_source w r g s = one_source ops valid.apart g.last w r (last_gives s.is_read g) s
 
     -- a read that has a source does not read 0
     pub source_nonzero : (w r : ℕ) → SourceOf ops w r → (at ops r).value ≢ 0
@@ -41,14 +58,14 @@ module _ (ops : List Operation) (valid : Valid ops) where
 
     pub reads_air : (r : ℕ) → Reads ops R o r → ¬ ThinAir ops r
     reads_air r (inl z) t = t.other z.value
-    reads_air r (inr g) t = t.unwritten g.last (record { is_read = t.is_read; gives = record { is_write = g.sees.is_write; register = g.sees.register; value = g.value } })
+    reads_air r (inr g) t = t.unwritten g.last (last_gives t.is_read g)
 
     pub reads_init : (w r : ℕ) → Reads ops R o r → (at ops r).value ≡ 0 → ¬ SeesOf ops R r w
     reads_init w r (inl z) e s = z.none w s
     reads_init w r (inr g) e s = g.other e
 
   wider_sees : (u v : Rel) (r w : ℕ) → Inside u v → SeesOf ops (In u) r w → SeesOf ops (In v) r w
-  wider_sees u v r w i s = record { is_write = s.is_write; register = s.register; seen = i w r s.seen }
+  wider_sees u v r w i s = sees_by s (i w r s.seen)
 
   wider_writes : (u v : Rel) → Inside u v → (a b : ℕ) → Writes ops u a b → Writes ops v a b
   wider_writes u v i a b h = (h.0, h.1, i a b h.2)
@@ -161,7 +178,7 @@ module _ (ops : List Operation) (valid : Valid ops) (D : Demand) (V : Rel) (L : 
       go (inl s) = inr (record {
         other = source_nonzero ops valid (In V) o s.0 r s.1;
         last = s.0;
-        sees = record { is_write = s.1.gives.is_write; register = s.1.gives.register; seen = L.sources s.0 r s.1 };
+        sees = sees_source s.1 (L.sources s.0 r s.1);
         value = s.1.gives.value;
         others = λ x k n. f s.0 x (record { source = s.1; sees = k; other = n });
       })
@@ -172,16 +189,11 @@ module _ (ops : List Operation) (valid : Valid ops) (D : Demand) (V : Rel) (L : 
       explain : (r : ℕ) → IsRead ops r → Extended (length ops) (IsWrite ops) (Forced ops valid V c r) → (o : List ℕ) × LawfulFor ops V r o
       explain r h x = (
         x.order,
-        lawful_read x.order r h
-            (record {
-              all = record { once = x.lists.once; holds = held; only = λ a k. (x.lists.only a k).1 };
-              keeps = λ a b k. x.keeps a b (held a k.0) (held b k.1) (inl k);
-            })
-            (λ w y k. x.keeps y w (held y k.sees.is_write) (held w k.source.gives.is_write) (inr k)),
+        lawful_read x.order r h (record { all = all; keeps = λ a b k. x.keeps a b (all.holds a k.0) (all.holds b k.1) (inl k) }) (λ w y k. x.keeps y w (all.holds y k.sees.is_write) (all.holds w k.source.gives.is_write) (inr k)),
       )
         where
-          held : (a : ℕ) → IsWrite ops a → Holds x.order a
-          held a k = x.lists.holds a (k.inside, k)
+          all : Lists (IsWrite ops) x.order
+          all = lists_all (λ a k. k.inside) x.lists
 
   -- one order that keeps all of this is lawful for every read
   pub shared_explains : (o : List ℕ) → Ordering ops V o → ((x w : ℕ) → Conflict ops V x w → Precedes o x w) → SharedExplains D ops V o

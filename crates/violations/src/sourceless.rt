@@ -3,12 +3,13 @@ ghost use Rattle.std.specs.Prelude.{◌≡◌, true, Decides};
 ghost use Rattle.recording.specs.Operations.{at, IsRead};
 ghost use Rattle.recording.specs.Telling.{recorded};
 ghost use Rattle.violations.specs.Firsts.{Smallest, SmallestPair};
+ghost use Rattle.violations.specs.Sourceless.{SourcelessValue};
 ghost use Rattle.violations.specs.Views.{operations_of, seen_of};
 ghost use Rattle.violations.specs.Violations.{ThinAir, InitialRead, BadInitRead};
 
 use crate::evidence::Pair;
 use crate::view::View;
-use recording::{Kind, Recording};
+use recording::Recording;
 use rows::Row;
 
 /// The smallest read that has a value other than 0 and no source.
@@ -22,15 +23,24 @@ pub fn thin_air(recording: &Recording) -> Option<usize>
 fn is_thin_air(recording: &Recording, number: usize) -> bool
     ensures { Decides result (ThinAir (recorded recording.now).operations number) }
 {
-    !is_initial_read(recording, number) && matches!(recording.source(number), Ok(None))
+    sourceless_value(recording, number).is_some_and(|value| value != 0)
 }
 
 /// Whether a number names a read of 0.
 pub fn is_initial_read(recording: &Recording, number: usize) -> bool
     ensures { Decides result (InitialRead (recorded recording.now).operations number) }
 {
-    recording.operation(number).is_some_and(|operation| operation.kind == Kind::Read
-        && operation.value == 0)
+    sourceless_value(recording, number).is_some_and(|value| value == 0)
+}
+
+// The value of a read without a source.
+fn sourceless_value(recording: &Recording, number: usize) -> Option<u32>
+    ensures { SourcelessValue (recorded recording.now).operations number result }
+{
+    match recording.source(number) {
+        Ok(None) => recording.operation(number).map(|read| read.value),
+        _ => None,
+    }
 }
 
 impl View<'_> {
