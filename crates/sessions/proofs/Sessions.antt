@@ -1,10 +1,11 @@
 -- A recording is explained by sessions exactly when there is no violation.
-use Rattle.std.proofs.Common.{◌≡◌, ℕ, zero, suc, ◌+◌, ◌<◌, ◌≤◌, Bool, true, false, not, ◌&&◌, ◌||◌, ltb, ◌≢◌, ◌⊎◌, List, [], ◌∷◌, map, length, sym, refl, ap, ◌∙◌, subst, inl, inr, ⊎_elim, arith}
+use Rattle.std.proofs.Common.{◌≡◌, ℕ, zero, suc, ◌+◌, ◌<◌, ◌≤◌, true, not, ◌&&◌, ◌||◌, ltb, ◌≢◌, ◌⊎◌, Decides, List, [], ◌∷◌, map, length, sym, refl, ap, ◌∙◌, subst, inl, inr, ⊎_elim, arith}
 use mathlib.Core.Logic.Dec
 use mathlib.Core.Bool.{decide, decide_iff}
 use native.Mathlib.Decide.{ℕ_discrete, dec_lt}
 use Rattle.std.proofs.lemmas.List.{length-map, get_or-map}
-use Rattle.std.proofs.lemmas.Bool.{and_parts, and_from, or_cases, or_left, or_right, not-true, both_ways, cases_order, lt-ltb, eq-eqb}
+use Rattle.std.proofs.lemmas.Bool.Decides.{Decides-and, Decides-or, Decides-not}
+use Rattle.std.proofs.lemmas.Bool.{and_from, cases_order, lt-ltb, eq-eqb}
 use Rattle.recording.specs.declared.operation.Operation.{Operation}
 use Rattle.recording.specs.Operations.{at, write_of, IsRead, SourceOf}
 use Rattle.relation.specs.Steps.{Holds, Precedes, Lists, Steps, one, more, Acyclic}
@@ -34,6 +35,14 @@ module _ (ops : List Operation) where
       let n = shape_length in
       and_from (ltb a b) _ (lt-ltb a b l)
       (and_from (ltb b (length (map shape ops))) _ (lt-ltb b (length (map shape ops)) (omega arith)) (eq-eqb _ _ (station_at a (omega arith) ∙ s ∙ sym (station_at b h))))
+
+  -- no read of a station is after its last operation
+  up_to_last : (o r : ℕ) → Last ops o → StationRead ops o r → r ≤ o
+  up_to_last o r last h = go (dec_lt o r)
+    where
+      go : Dec (o < r) → r ≤ o
+      go (yes q) = absurd (last.end r q h.is_read.inside h.station)
+      go (no q) = omega arith
 
 -- ── Decisions ──
 
@@ -103,11 +112,7 @@ module _ (ops : List Operation) (valid : Valid ops) (V : Rel) (L : IsLeast Causa
   module _ (o : ℕ) (last : Last ops o) (l : List ℕ) (x : Listing ops co o l) where
     -- each read of the station has its value by the last operation's listing
     gives : (r : ℕ) → StationRead ops o r → Reads ops (Precedes l) l r
-    gives r h = x.reads r h (go (dec_lt o r))
-      where
-        go : Dec (o < r) → r ≤ o
-        go (yes q) = absurd (last.end r q h.is_read.inside h.station)
-        go (no q) = omega arith
+    gives r h = x.reads r h (up_to_last ops o r last h)
 
     -- what stands before a read stands before its source
     rival_order : (u : Rel) (r w y : ℕ) → StationRead ops o r → Rival ops u r w y → Precedes l y r → Precedes l y w
@@ -198,35 +203,25 @@ module _ (ops : List Operation) (V : Rel) (L : IsLeast CausalDemand ops V) (own 
     abbrev strict : Rel
     strict a b = H a b && (V a b || not (H b a))
 
-    strict_is : (a b : ℕ) → In strict a b → In H a b × (In V a b ⊎ (¬ In H b a))
-    strict_is a b h =
-        let p = and_parts (H a b) (V a b || not (H b a)) h in
-        (p.0, ⊎_elim inl (λ q. inr (λ k. both_ways (H b a) (not-true (H b a) q) k)) (or_cases (V a b) (not (H b a)) p.1))
-
-    is_strict : (a b : ℕ) → In H a b → In V a b ⊎ (¬ In H b a) → In strict a b
-    is_strict a b h d = and_from (H a b) (V a b || not (H b a)) h (⊎_elim (or_left (V a b) (not (H b a))) (λ n. or_right (V a b) (not (H b a)) (not_in n)) d)
-      where
-        not_in : (¬ In H b a) → not (H b a) ≡ true
-        not_in n = go (H b a) refl
-          where
-            go : (t : Bool) → H b a ≡ t → not t ≡ true
-            go true q = absurd (n q)
-            go false q = refl
+    strict_decides : (a b : ℕ) → Decides (strict a b) (In H a b × (In V a b ⊎ (¬ In H b a)))
+    strict_decides a b =
+        let one : Decides (V a b || not (H b a)) (In V a b ⊎ (¬ In H b a)) = Decides-or (V a b) (not (H b a)) (λ h. h, λ h. h) (Decides-not (H b a) (λ h. h, λ h. h)) in
+        Decides-and (H a b) (V a b || not (H b a)) (λ h. h, λ h. h) one
 
     h_trans : Transitive H
     h_trans = I.happens.transitive
 
     strict_happens : Happens ops V z strict
     strict_happens = record {
-      transitive = λ a b c h k. join a b c (strict_is a b h) (strict_is b c k);
-      past = λ a b h k v. is_strict a b (I.happens.past a b h k v) (inl v);
+      transitive = λ a b c h k. join a b c ((strict_decides a b).0 h) ((strict_decides b c).0 k);
+      past = λ a b h k v. (strict_decides a b).1 (I.happens.past a b h k v, inl v);
       derived = λ r w x k v.
-          let held : Rival ops H r w x = record { source = v.source; sees = sees_by v.sees ((strict_is x r v.sees.seen).0); other = v.other } in
-          is_strict x w (I.happens.derived r w x k held) (inr (λ q. cyclic r w x (record { own = k; rival = held; after = q })));
+          let held : Rival ops H r w x = record { source = v.source; sees = sees_by v.sees ((strict_decides x r).0 v.sees.seen).0; other = v.other } in
+          (strict_decides x w).1 (I.happens.derived r w x k held, inr (λ q. cyclic r w x (record { own = k; rival = held; after = q })));
     }
       where
         join : (a b c : ℕ) → In H a b × (In V a b ⊎ (¬ In H b a)) → In H b c × (In V b c ⊎ (¬ In H c b)) → In strict a c
-        join a b c h k = is_strict a c (h_trans a b c h.0 k.0) (how h.1 k.1)
+        join a b c h k = (strict_decides a c).1 (h_trans a b c h.0 k.0, how h.1 k.1)
           where
             how : In V a b ⊎ (¬ In H b a) → In V b c ⊎ (¬ In H c b) → In V a c ⊎ (¬ In H c a)
             how (inl p) (inl q) = inl (trans a b c p q)
@@ -235,18 +230,14 @@ module _ (ops : List Operation) (V : Rel) (L : IsLeast CausalDemand ops V) (own 
             how (inr p) (inr q) = inr (λ t. p (h_trans b c a k.0 t))
 
     pub h_irrefl : (a : ℕ) → ¬ In H a a
-    h_irrefl a h = ⊎_elim (irrefl a) (λ n. n h) (strict_is a a (I.least strict strict_happens a a h)).1
+    h_irrefl a h = ⊎_elim (irrefl a) (λ n. n h) ((strict_decides a a).0 (I.least strict strict_happens a a h)).1
 
     -- a is put before b: H says so, or a is a read of the station, and H does not have b before it
     abbrev pub Put : ℕ → ℕ → Type 0
     Put a b = In H a b ⊎ (StationRead ops z a × ((b ≢ a) × (¬ In H b a)))
 
     read_past : (a : ℕ) → StationRead ops z a → Past V z a
-    read_past a h = station_past z a last.inside (go (dec_lt z a)) h.station
-      where
-        go : Dec (z < a) → a ≤ z
-        go (yes q) = absurd (last.end a q h.is_read.inside h.station)
-        go (no q) = omega arith
+    read_past a h = station_past z a last.inside (up_to_last ops z a last h) h.station
 
     reads_rise : (a b : ℕ) → StationRead ops z a → StationRead ops z b → a < b → In H a b
     reads_rise a b h k l = I.happens.past a b (read_past a h) (read_past b k) (station a b (station_before ops a b l k.is_read.inside (h.station ∙ sym k.station)))
