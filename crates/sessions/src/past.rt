@@ -10,7 +10,7 @@ use crate::station_view::StationView;
 use rows::{Row, clear, put_row};
 use visibility::{Outline, grow};
 
-impl StationView<'_> {
+impl StationView<'_, '_> {
     /// Makes a table of 1,024 words the smallest transitive relation that holds what is seen among the operation `last` and all
     /// that it sees, and puts a write that is before a read of its station before the read's source. Words of another length are
     /// left as they are.

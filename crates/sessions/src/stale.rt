@@ -9,7 +9,7 @@ use crate::stations::{is_station_read, station_reads};
 use rows::Row;
 use violations::{Pair, Rivals, View, is_initial_read};
 
-impl StationView<'_> {
+impl StationView<'_, '_> {
     /// The smallest read of 0 of the station of `last` before which a write of its register has happened, with the smallest such write.
     pub fn hb_init_read(self) -> Option<Pair>
         ensures { SmallestPair (HbInitRead (operations_of self.entry.view) self.entry.last (seen_of self.entry.view)) result }
@@ -37,7 +37,7 @@ impl StationView<'_> {
 }
 
 // The smallest write of its register that has happened before a read.
-fn first_before(view: View<'_>, read: usize) -> Option<usize>
+fn first_before(view: View<'_, '_>, read: usize) -> Option<usize>
     ensures { Smallest (SeesOf (operations_of view.entry) (In (seen_of view.entry)) read) result }
 {
     Row::below(view.recording.count()).find(|write| view.sees(read, write))

@@ -3,7 +3,7 @@ use violations::View;
 
 /// A view, and the last operation of a station.
 #[derive(Clone, Copy)]
-pub struct StationView<'a> {
-    pub view: View<'a>,
+pub struct StationView<'r, 's> {
+    pub view: View<'r, 's>,
     pub last: usize,
 }

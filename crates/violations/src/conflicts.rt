@@ -6,7 +6,7 @@ ghost use Rattle.violations.specs.Views.{operations_of, seen_of};
 use crate::view::View;
 use rows::{Table, clear, put_row};
 
-impl View<'_> {
+impl View<'_, '_> {
     /// Makes a table of 1,024 words hold (x, w) for each conflict, and nothing else. Words of another length are left as they are.
     pub fn put_conflicts(self, table: &mut [u64])
         ensures conflicts { length table.old ≡ 1024 → Tabled (operations_of self.entry) (seen_of self.entry) (length (operations_of self.entry)) table.new }

@@ -15,7 +15,7 @@ use relation::Narrowed;
 use relation::reach::reach;
 use rows::Row;
 
-impl View<'_> {
+impl View<'_, '_> {
     /// The smallest read that sees another write of its register to which steps between writes lead from its source,
     /// with the smallest such write.
     pub fn bad_read(self) -> Option<Rivals>

@@ -9,7 +9,7 @@ use crate::view::View;
 use relation::Toward;
 use rows::Row;
 
-impl View<'_> {
+impl View<'_, '_> {
     /// From each write that has to come before the source of a read to that source; nothing if the number names no read with a source.
     pub fn forced(self, read: usize) -> Toward
         ensures { (a b : ℕ) → Decides (member result.from a && (nat_lt result.to 256 && b == result.to)) (Rival (operations_of self.entry) (seen_of self.entry) read b a) }

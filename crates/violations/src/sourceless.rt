@@ -43,12 +43,13 @@ fn sourceless_value(recording: &Recording, number: usize) -> Option<u32>
     }
 }
 
-impl View<'_> {
+impl View<'_, '_> {
     /// The smallest read of 0 that sees a write of its register, with the smallest such write.
     pub fn bad_init_read(self) -> Option<Pair>
         ensures { SmallestPair (BadInitRead (operations_of self.entry) (seen_of self.entry)) result }
     {
         let count = self.recording.count();
+        // Nested loops that a label leaves at the first hit are a form that the project fixes.
         let mut found = None;
         'reads: for read in 0..count {
             if is_initial_read(self.recording, read) {

@@ -10,12 +10,12 @@ use rows::Table;
 
 /// A recording, and what its operations see.
 #[derive(Clone, Copy)]
-pub struct View<'a> {
-    pub recording: &'a Recording,
-    pub seen: Table<'a>,
+pub struct View<'r, 's> {
+    pub recording: &'r Recording,
+    pub seen: Table<'s>,
 }
 
-impl View<'_> {
+impl View<'_, '_> {
     /// Whether a number names a write of `read`'s register that `read` sees.
     pub fn sees(self, read: usize, write: usize) -> bool
         ensures { Decides result (SeesOf (operations_of self.entry) (In (seen_of self.entry)) read write) }
