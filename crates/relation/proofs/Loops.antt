@@ -1,36 +1,71 @@
 -- One turn of each loop.
-use Rattle.std.proofs.Common.{◌≡◌, ℕ, ◌+◌, ◌-◌, ◌<◌, ◌≤◌, Bool, true, false, not, ◌&&◌, ◌||◌, eqb, List, length, get_or, take, drop, set, sym, refl, ap, ◌∙◌, subst, ap₂, inl, inr, arith}
-use Rattle.std.proofs.lemmas.List.{get_or-set_same, get_or-set_other, get_or-take, get_or-drop, length-take-le, length-drop}
+use Rattle.std.proofs.Common.{◌≡◌, ℕ, ◌+◌, ◌-◌, ◌<◌, Bool, true, false, not, ◌&&◌, ◌||◌, eqb, List, [], ◌∷◌, ◌++◌, length, get_or, take, reverse, sym, refl, ap, ◌∙◌, subst, ap₂, inl, inr, arith}
+use Rattle.std.proofs.Math.Seq.{get_or-append_seam}
+use Rattle.std.proofs.lemmas.List.{get_or_append_left, get_or-take, get_or-reverse, length-append, length-reverse, length-take-le}
 use Rattle.std.proofs.lemmas.Bool.{cases_eq, both_ways, eq-eqb, ne_eqb, and_parts, or_cases, or_left, or_right, eqb-true, and_left, and_from, not_from_false}
+use Rattle.arrayvec.specs.ArrayVec.{ArrayVec, with_items}
+use Rattle.arrayvec.proofs.ArrayVecLemmas.{items-with_items}
 use Rattle.rows.specs.Counts.{size}
 use Rattle.rows.proofs.Sizes.{size_le, size_with, size_without}
-use Rattle.relation.specs.Orders.{Image, Arranged, Ordered, Ring, Tail}
+use Rattle.relation.specs.Orders.{Image, Arranged, Ordered, Ring}
 
--- the numbers that those of `left` below n block
-pub record Imaging (R : ℕ → ℕ → Bool) (left blocked : ℕ → Bool) (n : ℕ) : Type 0 where
-  pub sound : (k : ℕ) → blocked k ≡ true → (a : ℕ) × (left a ≡ true) × (R a k ≡ true)
-  pub whole : (a k : ℕ) → a < n → left a ≡ true → R a k ≡ true → blocked k ≡ true
+-- what the numbers of `from` that have left `rest` are related to
+pub record Imaging (R : ℕ → ℕ → Bool) (from rest reached : ℕ → Bool) : Type 0 where
+  pub some : (k : ℕ) → rest k ≡ true → from k ≡ true
+  pub sound : (k : ℕ) → reached k ≡ true → (a : ℕ) × (from a ≡ true) × (R a k ≡ true)
+  pub whole : (a k : ℕ) → from a ≡ true → rest a ≡ false → R a k ≡ true → reached k ≡ true
 
-module _ (R : ℕ → ℕ → Bool) (left : ℕ → Bool) where
-  pub imaging_all : (b : ℕ → Bool) (n : ℕ) → Imaging R left b n → ((k : ℕ) → left k ≡ true → k < n) → Image R left b
-  imaging_all b n v low = record { sound = v.sound; whole = λ a k q s. v.whole a k (low a q) q s }
+module _ (R : ℕ → ℕ → Bool) (from : ℕ → Bool) where
+  pub imaging_none : (reached : ℕ → Bool) → ((k : ℕ) → reached k ≡ false) → Imaging R from from reached
+  imaging_none reached none = record {
+    some = λ k h. h;
+    sound = λ k h. absurd (both_ways (reached k) (none k) h);
+    whole = λ a k p q r. absurd (both_ways (from a) q p);
+  }
+
+  pub imaging_more : (rest fewer reached row more : ℕ → Bool) (a : ℕ) → Imaging R from rest reached → rest a ≡ true → ((k : ℕ) → fewer k ≡ (rest k && not (eqb k a)))
+      → ((k : ℕ) → row k ≡ R a k) → ((k : ℕ) → more k ≡ (reached k || row k)) → Imaging R from fewer more
+  imaging_more rest fewer reached row more a v here less is union = record {
+    some = λ k h. v.some k (and_parts (rest k) (not (eqb k a)) (sym (less k) ∙ h)).0;
+    sound = λ k h. elim (or_cases (reached k) (row k) (sym (union k) ∙ h)) [
+      | inl p ↦ v.sound k p
+      | inr p ↦ (a, v.some a here, sym (is k) ∙ p)
+    ];
+    whole = λ b k p q r. elim (cases_eq b a) [
+      | inl e ↦ union k ∙ or_right (reached k) (row k) (is k ∙ ap (λ x. R x k) (sym e) ∙ r)
+      | inr n ↦ union k ∙ or_left (reached k) (row k) (v.whole b k p (sym (and_true (rest b)) ∙ ap (λ x. rest b && not x) (sym (ne_eqb b a n)) ∙ sym (less b) ∙ q) r)
+    ];
+  }
+    where
+      and_true : (x : Bool) → (x && true) ≡ x
+      and_true true = refl
+      and_true false = refl
+
+  pub imaging_all : (rest reached : ℕ → Bool) → Imaging R from rest reached → ((k : ℕ) → rest k ≡ false) → Image R from reached
+  imaging_all rest reached v none = record { sound = v.sound; whole = λ a k p r. v.whole a k p (none a) r }
 
 -- ---- one more number in order
 
 module _ (R : ℕ → ℕ → Bool) (M : ℕ → Bool) where
-  module _ (left rest : ℕ → Bool) (xs : List ℕ) (n k : ℕ) (v : Arranged R M left xs n) (in' : n < length xs) (here : left k ≡ true)
+  module _ (left rest : ℕ → Bool) (xs : List ℕ) (k : ℕ) (v : Arranged R M left xs (length xs)) (here : left k ≡ true)
       (alone : (a : ℕ) → left a ≡ true → R a k ≡ false) (e : (j : ℕ) → rest j ≡ (left j && not (eqb j k))) where
-    old : (i : ℕ) → i < n → get_or (set xs n k) i 0 ≡ get_or xs i 0
-    old i h = get_or-set_other xs n i k 0 (omega arith)
+    abbrev n : ℕ
+    n = length xs
 
-    new : get_or (set xs n k) n 0 ≡ k
-    new = get_or-set_same xs n k 0 in'
+    abbrev ys : List ℕ
+    ys = xs ++ k ∷ []
+
+    old : (i : ℕ) → i < n → get_or ys i 0 ≡ get_or xs i 0
+    old i h = get_or_append_left xs (k ∷ []) 0 i h
+
+    new : get_or ys n 0 ≡ k
+    new = get_or-append_seam xs k [] 0
 
     -- what holds at each place below n, and of k, holds at each place below n + 1
-    each : (P : ℕ → ℕ → Type 0) → ((i : ℕ) → i < n → P i (get_or xs i 0)) → P n k → (i : ℕ) → i < n + 1 → P i (get_or (set xs n k) i 0)
+    each : (P : ℕ → ℕ → Type 0) → ((i : ℕ) → i < n → P i (get_or xs i 0)) → P n k → (i : ℕ) → i < n + 1 → P i (get_or ys i 0)
     each P below at i h =
         elim (cases_eq i n) [
-          | inl z ↦ subst (λ (j : ℕ). P j (get_or (set xs n k) j 0)) (sym z) (subst (λ (x : ℕ). P n x) (sym new) at)
+          | inl z ↦ subst (λ (j : ℕ). P j (get_or ys j 0)) (sym z) (subst (λ (x : ℕ). P n x) (sym new) at)
           | inr z ↦ let l : i < n = omega arith in subst (λ (x : ℕ). P i x) (sym (old i l)) (below i l)
         ]
 
@@ -43,8 +78,11 @@ module _ (R : ℕ → ℕ → Bool) (M : ℕ → Bool) where
     gone : (j : ℕ) → left j ≡ false → rest j ≡ false
     gone j h = e j ∙ and_left (left j) (not (eqb j k)) h
 
-    pub arranged_more : Arranged R M rest (set xs n k) (n + 1)
-    arranged_more = record {
+    long : length ys ≡ n + 1
+    long = length-append xs (k ∷ [])
+
+    pub arranged_more : Arranged R M rest ys (length ys)
+    arranged_more = subst (Arranged R M rest ys) (sym long) (record {
       inside = each (λ i x. M x ≡ true) v.inside (v.some k here);
       away = each (λ i x. rest x ≡ false) (λ i h. gone (get_or xs i 0) (v.away i h)) rest_not;
       some = λ j h. v.some j (rest_left j h);
@@ -55,101 +93,119 @@ module _ (R : ℕ → ℕ → Bool) (M : ℕ → Bool) where
         ]
         | inr q ↦ inr (q.0, omega (arith, q.1), old q.0 q.1 ∙ q.2)
       ];
-      once = λ i j h. each (λ i x. (j : ℕ) → j < n + 1 → x ≡ get_or (set xs n k) j 0 → i ≡ j)
+      once = λ i j h. each (λ i x. (j : ℕ) → j < n + 1 → x ≡ get_or ys j 0 → i ≡ j)
           (λ i h. each (λ j y. get_or xs i 0 ≡ y → i ≡ j) (λ j l. v.once i j h l)
           (λ (z : get_or xs i 0 ≡ k). absurd (both_ways (left k) (ap left (sym z) ∙ v.away i h) here)))
           (each (λ j y. k ≡ y → n ≡ j) (λ j l (z : k ≡ get_or xs j 0). absurd (both_ways (left k) (ap left z ∙ v.away j l) here)) (λ _. refl)) i h j;
-      keeps = λ i j h. each (λ i x. (j : ℕ) → j < n + 1 → R x (get_or (set xs n k) j 0) ≡ true → i < j)
+      keeps = λ i j h. each (λ i x. (j : ℕ) → j < n + 1 → R x (get_or ys j 0) ≡ true → i < j)
           (λ i h. each (λ j y. R (get_or xs i 0) y ≡ true → i < j) (λ j l. v.keeps i j h l) (λ _. h))
           (each (λ j y. R k y ≡ true → n < j) (λ j l r. absurd (both_ways (R k (get_or xs j 0)) (v.ahead j k l here) r))
           (λ r. absurd (both_ways (R k k) (alone k here) r))) i h j;
       ahead = λ i j h l. each (λ _ x. (j : ℕ) → rest j ≡ true → R j x ≡ false) (λ i h j l. v.ahead i j h (rest_left j l)) (λ j l. alone j (rest_left j l)) i h j l;
-    }
+    })
 
 -- ---- one more step of the walk
 
-pub record Walked (R : ℕ → ℕ → Bool) (M seen : ℕ → Bool) (xs : List ℕ) (at : ℕ) : Type 0 where
-  pub inside : (i : ℕ) → at ≤ i → i < 256 → M (get_or xs i 0) ≡ true
-  pub marked : (i : ℕ) → at ≤ i → i < 256 → seen (get_or xs i 0) ≡ true
-  pub met : (k : ℕ) → seen k ≡ true → (i : ℕ) × (at ≤ i) × (i < 256) × (get_or xs i 0 ≡ k)
-  pub once : (i j : ℕ) → at ≤ i → i < 256 → at ≤ j → j < 256 → get_or xs i 0 ≡ get_or xs j 0 → i ≡ j
-  pub steps : (i : ℕ) → at ≤ i → i + 1 < 256 → R (get_or xs i 0) (get_or xs (i + 1) 0) ≡ true
+-- xs are different numbers of M, those that are seen, each after one that it is related to; b is related to the last
+pub record Walked (R : ℕ → ℕ → Bool) (M seen : ℕ → Bool) (xs : List ℕ) (b : ℕ) : Type 0 where
+  pub inside : (i : ℕ) → i < length xs → M (get_or xs i 0) ≡ true
+  pub marked : (i : ℕ) → i < length xs → seen (get_or xs i 0) ≡ true
+  pub met : (k : ℕ) → seen k ≡ true → (i : ℕ) × (i < length xs) × (get_or xs i 0 ≡ k)
+  pub once : (i j : ℕ) → i < length xs → j < length xs → get_or xs i 0 ≡ get_or xs j 0 → i ≡ j
+  pub steps : (i : ℕ) → i + 1 < length xs → R (get_or xs (i + 1) 0) (get_or xs i 0) ≡ true
+  pub here : M b ≡ true
+  pub next : 0 < length xs → R b (get_or xs (length xs - 1) 0) ≡ true
 
 module _ (R : ℕ → ℕ → Bool) (M : ℕ → Bool) where
-  pub walked_start : (none seen : ℕ → Bool) (xs : List ℕ) (k : ℕ) → length xs ≡ 256 → M k ≡ true → ((j : ℕ) → none j ≡ false) → ((j : ℕ) → seen j ≡ (none j || eqb j k))
-      → Walked R M seen (set xs 255 k) 255
-  walked_start none seen xs k l m z e =
-      let new : get_or (set xs 255 k) 255 0 ≡ k = get_or-set_same xs 255 k 0 (omega arith) in
-      let at : (i : ℕ) → 255 ≤ i → i < 256 → get_or (set xs 255 k) i 0 ≡ k = λ i p q. ap (λ (x : ℕ). get_or (set xs 255 k) x 0) (omega arith) ∙ new in
-      record {
-        inside = λ i p q. ap M (at i p q) ∙ m;
-        marked = λ i p q. ap seen (at i p q) ∙ e k ∙ or_right (none k) (eqb k k) (eq-eqb k k refl);
-        met = λ j h. elim (or_cases (none j) (eqb j k) (sym (e j) ∙ h)) [
-          | inl p ↦ absurd (both_ways (none j) (z j) p)
-          | inr p ↦ (255, omega arith, omega arith, new ∙ sym (eqb-true j k p))
-        ];
-        once = λ i j p q r s _. omega arith;
-        steps = λ i p q. absurd (omega arith);
-      }
+  pub walked_none : (seen : ℕ → Bool) (b : ℕ) → ((k : ℕ) → seen k ≡ false) → M b ≡ true → Walked R M seen [] b
+  walked_none seen b none here = record {
+    inside = λ i h. absurd (omega arith);
+    marked = λ i h. absurd (omega arith);
+    met = λ k h. absurd (both_ways (seen k) (none k) h);
+    once = λ i j h. absurd (omega arith);
+    steps = λ i h. absurd (omega arith);
+    here = here;
+    next = λ h. absurd (omega arith);
+  }
 
-  module _ (seen more : ℕ → Bool) (xs : List ℕ) (at b : ℕ) (v : Walked R M seen xs at) (l : length xs ≡ 256) (pos : 0 < at) (low : at < 256)
-      (here : M b ≡ true) (step : R b (get_or xs at 0) ≡ true) (fresh : seen b ≡ false) (e : (j : ℕ) → more j ≡ (seen j || eqb j b)) where
-    kept : (i : ℕ) → at ≤ i → get_or (set xs (at - 1) b) i 0 ≡ get_or xs i 0
-    kept i h = get_or-set_other xs (at - 1) i b 0 (omega arith)
+  module _ (seen more : ℕ → Bool) (xs : List ℕ) (b c : ℕ) (v : Walked R M seen xs b) (fresh : seen b ≡ false) (e : (j : ℕ) → more j ≡ (seen j || eqb j b))
+      (here : M c ≡ true) (step : R c b ≡ true) where
+    abbrev zs : List ℕ
+    zs = xs ++ b ∷ []
 
-    put : get_or (set xs (at - 1) b) (at - 1) 0 ≡ b
-    put = get_or-set_same xs (at - 1) b 0 (omega arith)
+    longer : length zs ≡ length xs + 1
+    longer = length-append xs (b ∷ [])
 
-    all : (P : ℕ → ℕ → Type 0) → ((i : ℕ) → at ≤ i → i < 256 → P i (get_or xs i 0)) → P (at - 1) b
-        → (i : ℕ) → at - 1 ≤ i → i < 256 → P i (get_or (set xs (at - 1) b) i 0)
-    all P above first i h q =
-        elim (cases_eq i (at - 1)) [
-          | inl z ↦ subst (λ (j : ℕ). P j (get_or (set xs (at - 1) b) j 0)) (sym z) (subst (λ (x : ℕ). P (at - 1) x) (sym put) first)
-          | inr z ↦ let p : at ≤ i = omega arith in subst (λ (x : ℕ). P i x) (sym (kept i p)) (above i p q)
+    kept : (i : ℕ) → i < (length xs) → get_or zs i 0 ≡ get_or xs i 0
+    kept i h = get_or_append_left xs (b ∷ []) 0 i h
+
+    put : get_or zs (length xs) 0 ≡ b
+    put = get_or-append_seam xs b [] 0
+
+    all : (P : ℕ → ℕ → Type 0) → ((i : ℕ) → i < (length xs) → P i (get_or xs i 0)) → P (length xs) b → (i : ℕ) → i < length zs → P i (get_or zs i 0)
+    all P below last i h =
+        elim (cases_eq i (length xs)) [
+          | inl z ↦ subst (λ (j : ℕ). P j (get_or zs j 0)) (sym z) (subst (λ (x : ℕ). P (length xs) x) (sym put) last)
+          | inr z ↦ let l : i < (length xs) = omega (arith, longer) in subst (λ (x : ℕ). P i x) (sym (kept i l)) (below i l)
         ]
 
-    more_seen : (j : ℕ) → seen j ≡ true → more j ≡ true
-    more_seen j h = e j ∙ or_left (seen j) (eqb j b) h
-
-    pub walked_more : Walked R M more (set xs (at - 1) b) (at - 1)
+    pub walked_more : Walked R M more zs c
     walked_more = record {
-      inside = all (λ i x. M x ≡ true) v.inside here;
-      marked = all (λ i x. more x ≡ true) (λ i p q. more_seen (get_or xs i 0) (v.marked i p q)) (e b ∙ or_right (seen b) (eqb b b) (eq-eqb b b refl));
+      inside = all (λ i x. M x ≡ true) v.inside v.here;
+      marked = all (λ i x. more x ≡ true) (λ i p. e (get_or xs i 0) ∙ or_left (seen (get_or xs i 0)) (eqb (get_or xs i 0) b) (v.marked i p)) (e b ∙ or_right (seen b) (eqb b b) (eq-eqb b b refl));
       met = λ j h. elim (or_cases (seen j) (eqb j b) (sym (e j) ∙ h)) [
-        | inl p ↦ let m = v.met j p in (m.0, omega (arith, m.1), m.2, kept m.0 m.1 ∙ m.3)
-        | inr p ↦ (at - 1, omega arith, omega arith, put ∙ sym (eqb-true j b p))
+        | inl p ↦ let m = v.met j p in (m.0, omega (arith, longer, m.1), kept m.0 m.1 ∙ m.2)
+        | inr p ↦ (length xs, omega (arith, longer), put ∙ sym (eqb-true j b p))
       ];
-      once = λ i j p q. all (λ i x. (j : ℕ) → at - 1 ≤ j → j < 256 → x ≡ get_or (set xs (at - 1) b) j 0 → i ≡ j)
-          (λ i p q. all (λ j y. get_or xs i 0 ≡ y → i ≡ j) (λ j r s. v.once i j p q r s)
-          (λ (z : get_or xs i 0 ≡ b). absurd (both_ways (seen b) fresh (ap seen (sym z) ∙ v.marked i p q))))
-          (all (λ j y. b ≡ y → at - 1 ≡ j) (λ j r s (z : b ≡ get_or xs j 0). absurd (both_ways (seen b) fresh (ap seen z ∙ v.marked j r s))) (λ _. refl)) i p q j;
-      steps = λ i p q.
-          let next : get_or (set xs (at - 1) b) (i + 1) 0 ≡ get_or xs (i + 1) 0 = kept (i + 1) (omega arith) in
-          elim (cases_eq i (at - 1)) [
+      once = λ i j p. all (λ i x. (j : ℕ) → j < length zs → x ≡ get_or zs j 0 → i ≡ j)
+          (λ i p. all (λ j y. get_or xs i 0 ≡ y → i ≡ j) (λ j q. v.once i j p q)
+          (λ (z : get_or xs i 0 ≡ b). absurd (both_ways (seen b) fresh (ap seen (sym z) ∙ v.marked i p))))
+          (all (λ j y. b ≡ y → (length xs) ≡ j) (λ j q (z : b ≡ get_or xs j 0). absurd (both_ways (seen b) fresh (ap seen z ∙ v.marked j q))) (λ _. refl)) i p j;
+      steps = λ i p.
+          let q : i < (length xs) = omega (arith, longer) in
+          elim (cases_eq (i + 1) (length xs)) [
             | inl z ↦
-                let x : get_or (set xs (at - 1) b) i 0 ≡ b = ap (λ (j : ℕ). get_or (set xs (at - 1) b) j 0) z ∙ put in
-                let y : i + 1 ≡ at = omega arith in
-                ap₂ R x (next ∙ ap (λ (j : ℕ). get_or xs j 0) y) ∙ step
-            | inr z ↦ ap₂ R (kept i (omega arith)) next ∙ v.steps i (omega arith) q
+                let x : get_or zs (i + 1) 0 ≡ b = ap (λ (j : ℕ). get_or zs j 0) z ∙ put in
+                let y : i ≡ (length xs) - 1 = omega arith in
+                ap₂ R x (kept i q ∙ ap (λ (j : ℕ). get_or xs j 0) y) ∙ v.next (omega arith)
+            | inr z ↦ let r : i + 1 < (length xs) = omega arith in ap₂ R (kept (i + 1) r) (kept i q) ∙ v.steps i r
           ];
+      here = here;
+      next = λ h. ap (R c) (ap (λ (j : ℕ). get_or zs j 0) (omega (arith, longer)) ∙ put) ∙ step;
     }
 
-  pub walked_ring : (seen : ℕ → Bool) (xs : List ℕ) (at b end : ℕ) → Walked R M seen xs at → at ≤ end → end < 256 → get_or xs end 0 ≡ b → R b (get_or xs at 0) ≡ true
-      → Ring R M xs at (end - at + 1)
-  walked_ring seen xs at b end v h l e r =
-      let last : at + (end - at + 1 - 1) ≡ end = omega arith in
-      let first : at + 0 ≡ at = omega arith in
-      record {
+  pub met_back : (seen : ℕ → Bool) (xs : List ℕ) (b : ℕ) → Walked R M seen xs b → seen b ≡ true → (i : ℕ) × (i < length (reverse xs)) × (get_or (reverse xs) i 0 ≡ b)
+  met_back seen xs b v h =
+      let m = v.met b h in
+      let l = m.1 in
+      let back : length xs - 1 - (length xs - 1 - m.0) ≡ m.0 = omega arith in
+      (length xs - 1 - m.0, omega (arith, length-reverse xs), get_or-reverse xs (length xs - 1 - m.0) 0 (omega arith) ∙ ap (λ (j : ℕ). get_or xs j 0) back ∙ m.2)
+
+  -- where b has been met, the way back from the last to b is a ring
+  pub walked_ring : (seen : ℕ → Bool) (xs : List ℕ) (b end : ℕ) → Walked R M seen xs b → end < length xs → get_or (reverse xs) end 0 ≡ b
+      → Ring R M (take (end + 1) (reverse xs)) 0 (length (take (end + 1) (reverse xs)))
+  walked_ring seen xs b end v h e =
+      let long : length (reverse xs) ≡ length xs = length-reverse xs in
+      let count : length (take (end + 1) (reverse xs)) ≡ end + 1 = length-take-le (end + 1) (reverse xs) (omega arith) in
+      let at : (i : ℕ) → i < end + 1 → get_or (take (end + 1) (reverse xs)) (0 + i) 0 ≡ get_or xs (length xs - 1 - i) 0 =
+      λ i p. ap (λ (j : ℕ). get_or (take (end + 1) (reverse xs)) j 0) (omega arith) ∙ get_or-take (end + 1) (reverse xs) i 0 p ∙ get_or-reverse xs i 0 (omega arith) in
+      let last : get_or (take (end + 1) (reverse xs)) (0 + (end + 1 - 1)) 0 ≡ b =
+      ap (λ (j : ℕ). get_or (take (end + 1) (reverse xs)) j 0) (omega arith) ∙ get_or-take (end + 1) (reverse xs) end 0 (omega arith) ∙ e in
+      subst (Ring R M (take (end + 1) (reverse xs)) 0) (sym count) (record {
         long = omega arith;
-        inside = λ i p. v.inside (at + i) (omega arith) (omega arith);
+        inside = λ i p. ap M (at i p) ∙ v.inside (length xs - 1 - i) (omega arith);
         once = λ i j p q z.
-            let s : at + i ≡ at + j = v.once (at + i) (at + j) (omega arith) (omega arith) (omega arith) (omega arith) z in
+            let s : length xs - 1 - i ≡ length xs - 1 - j = v.once (length xs - 1 - i) (length xs - 1 - j) (omega arith) (omega arith) (sym (at i p) ∙ z ∙ at j q) in
             omega arith;
         steps = λ i p.
-            let s : at + i + 1 ≡ at + (i + 1) = omega arith in
-            ap (λ (x : ℕ). R (get_or xs (at + i) 0) (get_or xs x 0)) (sym s) ∙ v.steps (at + i) (omega arith) (omega arith);
-        closes = ap₂ (λ (x y : ℕ). R (get_or xs x 0) (get_or xs y 0)) last first ∙ ap (λ (x : ℕ). R x (get_or xs at 0)) e ∙ r;
-      }
+            let s : length xs - 1 - i ≡ length xs - 1 - (i + 1) + 1 = omega arith in
+            ap₂ R (at i (omega arith) ∙ ap (λ (j : ℕ). get_or xs j 0) s) (at (i + 1) p) ∙ v.steps (length xs - 1 - (i + 1)) (omega arith);
+        closes = ap₂ R last (at 0 (omega arith) ∙ ap (λ (j : ℕ). get_or xs j 0) (omega arith)) ∙ v.next (omega arith);
+      })
+
+-- a path that is turned round through its slice
+pub turned : (v : ArrayVec ℕ) (ws : List ℕ) → ws ≡ reverse v.items → (with_items v ws).items ≡ reverse v.items
+turned v ws e = items-with_items v ws (ap length e ∙ length-reverse v.items) ∙ e
 
 -- ---- room in the arrays
 
@@ -159,57 +215,39 @@ room left M n k e l h =
     let b = size_le M 256 in
     omega arith
 
-pub space : (seen : ℕ → Bool) (at b : ℕ) → size seen 256 + at ≡ 256 → b < 256 → seen b ≡ false → 1 ≤ at
-space seen at b e l h =
+pub space : (seen : ℕ → Bool) (b : ℕ) → b < 256 → seen b ≡ false → size seen 256 < 256
+space seen b l h =
     let d = size_with seen (λ j. seen j || eqb j b) b 256 l h (λ j. refl) in
     let m = size_le (λ j. seen j || eqb j b) 256 in
     omega arith
 
--- ---- what is copied
+-- ---- what is put at the front
 
-pub ring_copied : (R : ℕ → ℕ → Bool) (M left : ℕ → Bool) (xs ys : List ℕ) (at n : ℕ) → Ring R left xs at n → ((k : ℕ) → left k ≡ true → M k ≡ true)
-    → ((i : ℕ) → i < n → get_or ys i 0 ≡ get_or xs (at + i) 0) → Ring R M ys 0 n
-ring_copied R M left xs ys at n v some e =
-    let same : (i : ℕ) → i < n → get_or ys (0 + i) 0 ≡ get_or xs (at + i) 0 = λ i h. ap (λ (x : ℕ). get_or ys x 0) (omega arith) ∙ e i h in
+-- the numbers of xs, one by one, at the front of ys
+at_front : (xs ys : List ℕ) → take (length xs) ys ≡ xs → (i : ℕ) → i < length xs → get_or ys i 0 ≡ get_or xs i 0
+at_front xs ys e i h = sym (get_or-take (length xs) ys i 0 h) ∙ ap (λ l. get_or l i 0) e
+
+pub ring_put : (R : ℕ → ℕ → Bool) (M left : ℕ → Bool) (xs ys : List ℕ) → Ring R left xs 0 (length xs) → ((k : ℕ) → left k ≡ true → M k ≡ true)
+    → take (length xs) ys ≡ xs → Ring R M ys 0 (length xs)
+ring_put R M left xs ys v some e =
+    let same : (i : ℕ) → i < length xs → get_or ys (0 + i) 0 ≡ get_or xs (0 + i) 0 = λ i h. at_front xs ys e (0 + i) (omega arith) in
     let l = v.long in
     record {
       long = v.long;
-      inside = λ i h. ap M (same i h) ∙ some (get_or xs (at + i) 0) (v.inside i h);
+      inside = λ i h. ap M (same i h) ∙ some (get_or xs (0 + i) 0) (v.inside i h);
       once = λ i j h k z. v.once i j h k (sym (same i h) ∙ z ∙ same j k);
       steps = λ i h. ap₂ R (same i (omega arith)) (same (i + 1) h) ∙ v.steps i h;
-      closes = ap₂ R (same (n - 1) (omega arith)) (same 0 (omega arith)) ∙ v.closes;
+      closes = ap₂ R (same (length xs - 1) (omega arith)) (same 0 (omega arith)) ∙ v.closes;
     }
 
 -- where no number is left, all are in order
-pub ordered_copied : (R : ℕ → ℕ → Bool) (M left : ℕ → Bool) (xs ys : List ℕ) (n : ℕ) → Arranged R M left xs n → ((k : ℕ) → left k ≡ false)
-    → ((i : ℕ) → i < n → get_or ys i 0 ≡ get_or xs (0 + i) 0) → Ordered R M ys n
-ordered_copied R M left xs ys n v none e =
-    let same : (i : ℕ) → i < n → get_or ys i 0 ≡ get_or xs i 0 = λ i h. e i h ∙ ap (λ (x : ℕ). get_or xs x 0) (omega arith) in
+pub ordered_put : (R : ℕ → ℕ → Bool) (M left : ℕ → Bool) (xs ys : List ℕ) → Arranged R M left xs (length xs) → ((k : ℕ) → left k ≡ false)
+    → take (length xs) ys ≡ xs → Ordered R M ys (length xs)
+ordered_put R M left xs ys v none e =
+    let same = at_front xs ys e in
     record {
       inside = λ i h. ap M (same i h) ∙ v.inside i h;
       every = λ k h. elim (v.every k h) [ inl p ↦ absurd (both_ways (left k) (none k) p) | inr q ↦ (q.0, q.1, same q.0 q.1 ∙ q.2) ];
       once = λ i j h k z. v.once i j h k (sym (same i h) ∙ z ∙ same j k);
       keeps = λ i j h k r. v.keeps i j h k (sym (ap₂ R (same i h) (same j k)) ∙ r);
     }
-
--- the n numbers of xs from `at` on, put at the front of ys
-pub record Fronted (before ys xs : List ℕ) (at n : ℕ) : Type 0 where
-  pub same : (i : ℕ) → i < n → get_or ys i 0 ≡ get_or xs (at + i) 0
-  pub tail : Tail before ys n
-
-module _ (before ys xs part : List ℕ) (at n : ℕ) (long : length part ≡ n) (is : (i : ℕ) → i < n → get_or part i 0 ≡ get_or xs (at + i) 0) where
-  pub fronted : take (length part) ys ≡ part → Tail before ys (length part) → Fronted before ys xs at n
-  fronted e t = record {
-    same = λ i h. sym (get_or-take (length part) ys i 0 (omega arith)) ∙ ap (λ l. get_or l i 0) e ∙ is i h;
-    tail = λ i h. t i (omega arith);
-  }
-
-pub fronted_start : (before ys xs : List ℕ) (n : ℕ) → n ≤ length xs → let part = take (n - 0) xs in take (length part) ys ≡ part → Tail before ys (length part) → Fronted before ys xs 0 n
-fronted_start before ys xs n fits =
-    fronted before ys xs (take (n - 0) xs) 0 n (length-take-le (n - 0) xs (omega arith) ∙ omega arith) (λ i h. get_or-take (n - 0) xs i 0 (omega arith) ∙ ap (λ (x : ℕ). get_or xs x 0) (omega arith))
-
-pub fronted_part : (before ys xs : List ℕ) (at n : ℕ) → at + n ≤ length xs → let part = take ((at + n) - at) (drop at xs) in take (length part) ys ≡ part → Tail before ys (length part) → Fronted before ys xs at n
-fronted_part before ys xs at n fits =
-    fronted before ys xs (take ((at + n) - at) (drop at xs)) at n
-    (length-take-le ((at + n) - at) (drop at xs) (omega (arith, length-drop at xs)) ∙ omega arith)
-    (λ i h. get_or-take ((at + n) - at) (drop at xs) i 0 (omega arith) ∙ get_or-drop at xs i 0)

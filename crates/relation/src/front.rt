@@ -9,8 +9,6 @@ pub fn put_front(numbers: &[u16], out: &mut [u16])
     ensures unfit { length out.old < length numbers.now → out.new ≡ out.old }
 {
     if numbers.len() <= out.len() {
-        for i in 0..numbers.len() {
-            out[i] = numbers[i];
-        }
+        out[..numbers.len()].copy_from_slice(numbers);
     }
 }

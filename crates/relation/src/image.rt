@@ -10,10 +10,8 @@ pub fn image<R: Relation>(relation: &R, from: Row) -> Row
     ensures { Image (R.holds relation.now) (member from) (member result) }
 {
     let mut reached = Row::empty();
-    for a in 0..256 {
-        if from.contains(a) {
-            reached = reached.union(relation.row(a));
-        }
+    for a in from.members() {
+        reached = reached.union(relation.row(a));
     }
     reached
 }

@@ -15,7 +15,7 @@ mod walk;
 
 pub use front::put_front;
 pub use narrowed::Narrowed;
-pub use order::{Outcome, order_or_cycle};
+pub use order::{Obstacle, order_or_cycle};
 pub use pairs::Relation;
 pub use theory::order_theory;
 pub use toward::Toward;

@@ -23,11 +23,18 @@ impl Table<'_> {
     pub fn row(self, a: usize) -> Row
         ensures { (b : ℕ) → member result b ≡ related self.entry.words.now a b }
     {
-        let mut row = Row::empty();
         if a < 256 {
-            row.words.copy_from_slice(&self.words[4 * a..4 * a + 4]);
+            Row {
+                words: [
+                    self.words[4 * a],
+                    self.words[4 * a + 1],
+                    self.words[4 * a + 2],
+                    self.words[4 * a + 3],
+                ],
+            }
+        } else {
+            Row::empty()
         }
-        row
     }
 }
 
