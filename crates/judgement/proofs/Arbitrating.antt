@@ -12,8 +12,10 @@ use Rattle.relation.proofs.Extending.{steps_wider}
 use Rattle.rows.specs.Members.{related}
 use Rattle.visibility.specs.Growth.{Rel}
 use Rattle.violations.specs.Explained.{Valid, Writes, Ordering}
-use Rattle.judgement.specs.Arbitrated.{Arbitrated}
+use Rattle.judgement.specs.declared.verdict.Violation.TheVariants.{BadArb}
+use Rattle.judgement.specs.Arbitrated.{Arranged}
 use Rattle.judgement.specs.Ordered.{OrderedFor}
+use Rattle.judgement.specs.Showing.{Evident}
 use Rattle.violations.specs.Tabled.{Tabled}
 use Rattle.judgement.specs.Verdicts as verdicts
 use Rattle.violations.specs.Violations.{Rival, Conflict, OwnClean}
@@ -55,20 +57,22 @@ module _ (ops : List Operation) (V : Rel) (M : ℕ → Bool) (d : (k : ℕ) → 
   conflict_decides : (a b : ℕ) → Decides (related t a b) (Conflict ops V a b)
   conflict_decides a b = (λ h. let s = tabled.sound a b h in (s.0, s.2), λ c. tabled.whole a b c.0 (inl c.1.source.is_read.inside) c.1)
 
-  module _ (before after : List ℕ) (room : length before ≡ 256) (long : length after ≡ 256) where
-    pub arbitrated : (r : Outcome) → Found (λ a b. (M a && (M b && V a b)) || related t a b) M before after r → Arbitrated ops V before after r
-    arbitrated (Order n) f =
-        let few : n ≤ 256 = f.1 in
-        record {
-          ordering = order_ordering ops V M d (related t) (Conflict ops V) conflict_decides after n (omega arith) f.2;
-          conflicts = λ x w c. order_keeps ops V M d (related t) (Conflict ops V) conflict_decides after n (omega arith) f.2 x w c.1.sees.is_write c.1.source.gives.is_write c;
-          few = few;
-          tail = f.3;
-        }
-    arbitrated (Cycle n) f =
-        let few : n ≤ 256 = f.1 in
-        record { shows = (refl, cycle_kept ops V M d (related t) (Conflict ops V) conflict_decides after n (omega arith) f.2); few = few; tail = f.3 }
-    arbitrated NoRoom f = let h = f.0 in omega arith
+  module _ (before after : List ℕ) (long : length after ≡ 256) where
+    module _ (n : ℕ) where
+      pub arranged : Found (λ a b. (M a && (M b && V a b)) || related t a b) M before after (Order n) → Arranged ops V n before after
+      arranged f =
+          let few : n ≤ 256 = f.1 in
+          record {
+            ordering = order_ordering ops V M d (related t) (Conflict ops V) conflict_decides after n (omega arith) f.2;
+            conflicts = λ x w c. order_keeps ops V M d (related t) (Conflict ops V) conflict_decides after n (omega arith) f.2 x w c.1.sees.is_write c.1.source.gives.is_write c;
+            few = few;
+            tail = f.3;
+          }
+
+      pub cyclic : Found (λ a b. (M a && (M b && V a b)) || related t a b) M before after (Cycle n) → Evident ops V BadArb 0 n before after
+      cyclic f =
+          let few : n ≤ 256 = f.1 in
+          record { shows = (refl, cycle_kept ops V M d (related t) (Conflict ops V) conflict_decides after n (omega arith) f.2); few = few; tail = f.3 }
 
 -- an order for the read r: K is what has to come before its source
 module _ (ops : List Operation) (valid : Valid ops) (V : Rel) (clean : OwnClean ops V) (r : ℕ) (M : ℕ → Bool) (d : (k : ℕ) → Decides (M k) (IsWrite ops k)) (C : Rel)

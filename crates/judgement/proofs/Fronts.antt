@@ -4,7 +4,7 @@ use Rattle.std.proofs.lemmas.List.{get_or-take, length-take-le}
 use Rattle.relation.specs.declared.order.Outcome.{Outcome}
 use Rattle.relation.specs.declared.order.Outcome.TheVariants.{Order, Cycle, NoRoom}
 use Rattle.relation.specs.Found.{Found, Exactly}
-use Rattle.relation.specs.Orders.{Ordered, Ring, Tail}
+use Rattle.relation.specs.Orders.{Ordered, Ring}
 use Rattle.relation.specs.Steps.{Steps, one, Acyclic, Among, Once, Precedes, Lists}
 use Rattle.relation.proofs.Extending.{steps_join, steps_wider}
 use Rattle.relation.proofs.Places.{places_theorem}
@@ -73,20 +73,6 @@ module _ (xs : List ℕ) (n : ℕ) (fits : n ≤ length xs) where
         let up = o.keeps p.0 q.0 p.1 q.1 (subst₂ (λ x y. R x y ≡ true) (sym p.2) (sym q.2) r) in
         (places_theorem.precedes (take n xs) a b).1
         (p.0, q.0, up, (let z = q.1 in omega arith), sym (front p.0 p.1) ∙ p.2, sym (front q.0 q.1) ∙ q.2)
-
--- the first n numbers of a list, put at the front of a buffer
-module _ (list before after : List ℕ) (n : ℕ) (fits : n ≤ length list) where
-  count_is : length (take (n - 0) list) ≡ n
-  count_is = length-take-le (n - 0) list (omega arith) ∙ omega arith
-
-  pub front_same : take (length (take (n - 0) list)) after ≡ take (n - 0) list → take n after ≡ take n list
-  front_same e = ap (λ (k : ℕ). take k after) (sym count_is) ∙ e ∙ ap (λ (k : ℕ). take k list) (omega arith)
-
-  pub front_tail : Tail before after (length (take (n - 0) list)) → Tail before after n
-  front_tail t i h = let c = count_is in t i (omega arith)
-
-  pub front_fits : length before ≡ 256 → n ≤ 256 → length (take (n - 0) list) ≤ length before
-  front_fits l k = let c = count_is in omega arith
 
 -- where there is room, and no cycle is found, there is none
 pub no_cycle : (R : ℕ → ℕ → Bool) (M : ℕ → Bool) (before after : List ℕ) (r : Outcome) → Found R M before after r → Exactly R M r → 256 ≤ length before → ((n : ℕ) → ¬ (r ≡ Cycle n)) → Acyclic (Among M R)

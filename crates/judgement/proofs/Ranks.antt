@@ -1,20 +1,15 @@
--- Violations in the order of their numbers, and what shows one.
-use Rattle.std.proofs.Common.{ℕ, ◌<◌, List}
+-- What shows a violation.
+use Rattle.std.proofs.Common.{ℕ, List}
 use Rattle.recording.specs.declared.operation.Operation.{Operation}
 use Rattle.visibility.specs.Growth.{Rel}
 use Rattle.judgement.specs.declared.verdict.Violation.{Violation}
 use Rattle.judgement.specs.declared.verdict.Violation.TheVariants.{ThinAir, BadVisibility, BadInitRead, BadRead, BadArb, HbInitRead, CyclicHb}
 use Rattle.violations.specs.Explained.{In}
-use Rattle.judgement.specs.Numbers.{violation_number}
 use Rattle.judgement.specs.Verdicts.{Absent, Shows}
 use Rattle.violations.specs.Violations.{Arbitration}
 use Rattle.judgement.proofs.Fronts.{cycle_not_acyclic}
 
 module _ (ops : List Operation) (V : Rel) where
-  -- none of the violations below a number holds
-  abbrev pub Below : ℕ → Type 0
-  Below n = (y : Violation) → violation_number y < n → Absent ops V y
-
   -- what is shown holds
   pub shown_holds : (x : Violation) (s : ℕ) (e : List ℕ) → Shows ops V x s e → ¬ Absent ops V x
   shown_holds ThinAir s e h a = a h.1.0 h.1.2.0

@@ -1,15 +1,15 @@
 -- What comes of putting the writes in one order for all reads.
-use Rattle.std.specs.Prelude.{ℕ, ◌≤◌, List, take}
+use Rattle.std.specs.Prelude.{◌≡◌, ℕ, ◌≤◌, List, take, Ok, Err, Result}
 use Rattle.recording.specs.declared.operation.Operation.{Operation}
-use Rattle.relation.specs.declared.order.Outcome.{Outcome}
-use Rattle.relation.specs.declared.order.Outcome.TheVariants.{Order, Cycle, NoRoom}
 use Rattle.relation.specs.Orders.{Tail}
 use Rattle.relation.specs.Steps.{Precedes}
 use Rattle.visibility.specs.Growth.{Rel}
+use Rattle.judgement.specs.declared.shown.Shown.{Shown}
 use Rattle.judgement.specs.declared.verdict.Violation.TheVariants.{BadArb}
 use Rattle.violations.specs.Explained.{Ordering}
 use Rattle.judgement.specs.Showing.{Evident}
-use Rattle.violations.specs.Violations.{Conflict}
+use Rattle.judgement.specs.Verdicts.{First, in_shared}
+use Rattle.violations.specs.Violations.{Conflict, OwnClean}
 
 -- the first n numbers of the buffer are an order of all writes that keeps visibility and conflicts
 pub record Arranged (ops : List Operation) (V : Rel) (n : ℕ) (before after : List ℕ) : Type 0 where
@@ -18,8 +18,12 @@ pub record Arranged (ops : List Operation) (V : Rel) (n : ℕ) (before after : L
   pub few : n ≤ 256
   pub tail : Tail before after n
 
--- such an order, or a cycle; there is always room
-abbrev pub Arbitrated : List Operation → Rel → List ℕ → List ℕ → Outcome → Type 0
-Arbitrated ops V before after (Order n) = Arranged ops V n before after
-Arbitrated ops V before after (Cycle n) = Evident ops V BadArb 0 n before after
-Arbitrated ops V before after NoRoom = ⊥
+-- such an order, or a cycle
+abbrev pub Arbitrated : List Operation → Rel → List ℕ → List ℕ → Result ℕ Shown → Type 0
+Arbitrated ops V before after (Ok n) = Arranged ops V n before after
+Arbitrated ops V before after (Err s) = (s.violation ≡ BadArb) × Evident ops V BadArb s.station s.count before after
+
+-- such an order, where the own judgement finds nothing; or the first violation of the shared judgement
+abbrev pub SharedSought : List Operation → Rel → List ℕ → List ℕ → Result ℕ Shown → Type 0
+SharedSought ops V before after (Ok n) = OwnClean ops V × Arranged ops V n before after
+SharedSought ops V before after (Err s) = First in_shared ops V s.violation × Evident ops V s.violation s.station s.count before after

@@ -5,3 +5,5 @@ pub mod Arbitrated
 pub mod Ordered
 pub mod Passing
 pub mod Stale
+pub mod Scenes
+pub mod Within

@@ -1,16 +1,15 @@
 //! The order for a read: one order of all writes that gives this read its value.
-ghost use Rattle.std.specs.Prelude.{◌≡◌, length};
+ghost use Rattle.std.specs.Prelude.{◌≡◌};
 ghost use Rattle.recording.specs.Operations.{IsRead};
 ghost use Rattle.recording.specs.Telling.{recorded};
 ghost use Rattle.rows.specs.Members.{related};
-ghost use Rattle.judgement.specs.Ordered.{Granted, OrderFound, OrderedFor};
+ghost use Rattle.judgement.specs.Ordered.{OrderFound, OrderedFor};
 ghost use Rattle.judgement.specs.Verdicts.{OrderAnswer, lent};
 ghost use Rattle.violations.specs.Violations.{OwnClean};
 
-use crate::lending::lengths_fit;
+use crate::lending::{NUMBERS, WORDS};
 use crate::own::own_verdict;
 use crate::refusal::Refusal;
-use crate::verdict::Verdict;
 use recording::Recording;
 use relation::{Narrowed, Outcome, Union, order_or_cycle};
 use rows::Table;
@@ -30,14 +29,15 @@ pub fn order_for_read<R: Rule>(
 ) -> Result<usize, Refusal>
     ensures answered { OrderAnswer (R.demands rule.now) (R.known rule.now) (recorded recording.now).operations read (lent seen.old working.old evidence.old) result (lent seen.new working.new evidence.new) }
 {
-    if !lengths_fit(seen, working, evidence) {
-        return Err(Refusal::WrongLength);
-    }
+    let seen = seen.as_mut_array::<WORDS>().ok_or(Refusal::WrongLength)?;
+    working.as_mut_array::<WORDS>().ok_or(Refusal::WrongLength)?;
+    let evidence = evidence
+        .as_mut_array::<NUMBERS>()
+        .ok_or(Refusal::WrongLength)?;
     if recording.source(read).is_err() {
         return Err(Refusal::NotARead);
     }
-    let count = own_order(recording, rule, read, seen, evidence)?;
-    Ok(count)
+    own_order(recording, rule, read, seen, evidence)
 }
 
 // The order for a read, where all lengths are right. Refuses by 17.
@@ -45,33 +45,24 @@ fn own_order<R: Rule>(
     recording: &Recording,
     rule: &R,
     read: usize,
-    seen: &mut [u64],
-    evidence: &mut [u16],
+    seen: &mut [u64; WORDS],
+    evidence: &mut [u16; NUMBERS],
 ) -> Result<usize, Refusal>
-    requires seen { length seen.old ≡ 1024 }
-    requires evidence { length evidence.old ≡ 256 }
-    requires read { IsRead (recorded recording.now).operations read }
+    requires { IsRead (recorded recording.now).operations read }
     ensures { OrderFound (R.demands rule.now) (R.known rule.now) (recorded recording.now).operations read (related seen.new) evidence.old evidence.new result }
 {
-    let verdict = own_verdict(recording, rule, seen, evidence);
-    grant(verdict)?;
+    own_verdict(recording, rule, seen, evidence).grant()?;
     Ok(order_writes(recording, Table { words: seen }, read, evidence))
 }
 
-// Refuses by 17 where the verdict is not explained.
-pub(crate) fn grant(verdict: Verdict) -> Result<(), Refusal>
-    ensures { Granted verdict result }
-{
-    match verdict.violation {
-        None => Ok(()),
-        Some(_) => Err(Refusal::NotExplained),
-    }
-}
-
 // Puts an order for a read at the front of the evidence, and answers its length.
-fn order_writes(recording: &Recording, seen: Table<'_>, read: usize, evidence: &mut [u16]) -> usize
-    requires evidence { length evidence.old ≡ 256 }
-    requires own_clean { OwnClean (recorded recording.now).operations (related seen.words.now) }
+fn order_writes(
+    recording: &Recording,
+    seen: Table<'_>,
+    read: usize,
+    evidence: &mut [u16; NUMBERS],
+) -> usize
+    requires { OwnClean (recorded recording.now).operations (related seen.words.now) }
     ensures { OrderedFor (recorded recording.now).operations (related seen.entry.words.now) read result evidence.old evidence.new }
 {
     let mask = writes(recording);

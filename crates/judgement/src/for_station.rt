@@ -8,8 +8,7 @@ ghost use Rattle.sessions.specs.Listings.{SessionExplains};
 ghost use Rattle.judgement.specs.Ordered.{ListingFound, ListedPast};
 ghost use Rattle.judgement.specs.Verdicts.{ListingAnswer, lent};
 
-use crate::for_read::grant;
-use crate::lending::lengths_fit;
+use crate::lending::{NUMBERS, WORDS};
 use crate::refusal::Refusal;
 use crate::session::session_verdict;
 use crate::stale::last_of;
@@ -30,32 +29,29 @@ pub fn order_for_station(
 ) -> Result<usize, Refusal>
     ensures answered { ListingAnswer (recorded recording.now) station (lent seen.old working.old evidence.old) result (lent seen.new working.new evidence.new) }
 {
-    if !lengths_fit(seen, working, evidence) {
-        return Err(Refusal::WrongLength);
-    }
+    let seen = seen.as_mut_array::<WORDS>().ok_or(Refusal::WrongLength)?;
+    let working = working.as_mut_array::<WORDS>().ok_or(Refusal::WrongLength)?;
+    let evidence = evidence
+        .as_mut_array::<NUMBERS>()
+        .ok_or(Refusal::WrongLength)?;
     if station >= recording.stations() {
         return Err(Refusal::NoSuchStation);
     }
-    let count = session_order(recording, station, seen, working, evidence)?;
-    Ok(count)
+    session_order(recording, station, seen, working, evidence)
 }
 
 // The listing of a station, where all lengths are right. Refuses by 17.
 fn session_order(
     recording: &Recording,
     station: usize,
-    seen: &mut [u64],
-    working: &mut [u64],
-    evidence: &mut [u16],
+    seen: &mut [u64; WORDS],
+    working: &mut [u64; WORDS],
+    evidence: &mut [u16; NUMBERS],
 ) -> Result<usize, Refusal>
-    requires seen { length seen.old ≡ 1024 }
-    requires working { length working.old ≡ 1024 }
-    requires evidence { length evidence.old ≡ 256 }
     requires station { station < (recorded recording.now).stations }
     ensures { ListingFound (recorded recording.now).operations station (related seen.new) evidence.old evidence.new result }
 {
-    let verdict = session_verdict(recording, seen, working, evidence);
-    grant(verdict)?;
+    session_verdict(recording, seen, working, evidence).grant()?;
     match last_of(recording, station) {
         Some(last) => Ok(list_past(recording, Table { words: seen }, last, working, evidence)),
         None => Ok(0),
@@ -67,11 +63,9 @@ fn list_past(
     recording: &Recording,
     seen: Table<'_>,
     last: usize,
-    working: &mut [u64],
-    evidence: &mut [u16],
+    working: &mut [u64; WORDS],
+    evidence: &mut [u16; NUMBERS],
 ) -> usize
-    requires working { length working.old ≡ 1024 }
-    requires evidence { length evidence.old ≡ 256 }
     requires last { Last (recorded recording.now).operations last }
     requires least { IsLeast CausalDemand (recorded recording.now).operations (related seen.words.now) }
     requires session_explains { SessionExplains (recorded recording.now).operations (related seen.words.now) }

@@ -7,6 +7,7 @@ pub mod for_station;
 mod lending;
 pub mod own;
 pub mod refusal;
+mod scene;
 pub mod session;
 pub mod shared;
 mod showing;

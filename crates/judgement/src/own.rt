@@ -1,15 +1,13 @@
 //! Own judgement: each read has an order of its own.
-ghost use Rattle.std.specs.Prelude.{◌≡◌, length};
 ghost use Rattle.recording.specs.Telling.{recorded};
 ghost use Rattle.rows.specs.Members.{related};
 ghost use Rattle.judgement.specs.Verdicts.{JudgementAnswer, OwnJudged, lent};
 
-use crate::lending::lengths_fit;
+use crate::lending::{NUMBERS, WORDS};
 use crate::refusal::Refusal;
-use crate::showing::show_violation;
+use crate::scene::Scene;
 use crate::verdict::Verdict;
 use recording::Recording;
-use rows::Table;
 use visibility::{Rule, least_visibility};
 
 /// Whether each read has an order of all writes that gives it its value, under a visibility as the rule demands it.
@@ -23,9 +21,11 @@ pub fn judge_own<R: Rule>(
 ) -> Result<Verdict, Refusal>
     ensures judged { JudgementAnswer (OwnJudged (R.demands rule.now) (R.known rule.now) (recorded recording.now).operations) (lent seen.old working.old evidence.old) result (lent seen.new working.new evidence.new) }
 {
-    if !lengths_fit(seen, working, evidence) {
-        return Err(Refusal::WrongLength);
-    }
+    let seen = seen.as_mut_array::<WORDS>().ok_or(Refusal::WrongLength)?;
+    working.as_mut_array::<WORDS>().ok_or(Refusal::WrongLength)?;
+    let evidence = evidence
+        .as_mut_array::<NUMBERS>()
+        .ok_or(Refusal::WrongLength)?;
     Ok(own_verdict(recording, rule, seen, evidence))
 }
 
@@ -33,14 +33,12 @@ pub fn judge_own<R: Rule>(
 pub(crate) fn own_verdict<R: Rule>(
     recording: &Recording,
     rule: &R,
-    seen: &mut [u64],
-    evidence: &mut [u16],
+    seen: &mut [u64; WORDS],
+    evidence: &mut [u16; NUMBERS],
 ) -> Verdict
-    requires seen { length seen.old ≡ 1024 }
-    requires evidence { length evidence.old ≡ 256 }
     ensures { OwnJudged (R.demands rule.now) (R.known rule.now) (recorded recording.now).operations result (related seen.new) evidence.old evidence.new }
 {
     least_visibility(recording, rule, seen);
-    let shown = show_violation(recording, Table { words: seen }, evidence);
-    Verdict::of(rule.label(), shown)
+    let scene = Scene::of(recording, seen);
+    Verdict::of(rule.label(), scene.check_own(evidence).and(Ok(0)))
 }

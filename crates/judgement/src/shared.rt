@@ -1,13 +1,14 @@
 //! Shared judgement: one order for all reads.
-ghost use Rattle.std.specs.Prelude.{◌≡◌, length};
 ghost use Rattle.recording.specs.Telling.{recorded};
 ghost use Rattle.rows.specs.Members.{related};
+ghost use Rattle.judgement.specs.Arbitrated.{SharedSought};
+ghost use Rattle.judgement.specs.Scenes.{operations, visible};
 ghost use Rattle.judgement.specs.Verdicts.{JudgementAnswer, SharedJudged, lent};
 
-use crate::arbitration::arbitrate;
-use crate::lending::lengths_fit;
+use crate::lending::{NUMBERS, WORDS};
 use crate::refusal::Refusal;
-use crate::showing::show_violation;
+use crate::scene::Scene;
+use crate::shown::Shown;
 use crate::verdict::Verdict;
 use recording::Recording;
 use rows::Table;
@@ -25,9 +26,11 @@ pub fn judge_shared<R: Rule>(
 ) -> Result<Verdict, Refusal>
     ensures judged { JudgementAnswer (SharedJudged (R.demands rule.now) (R.known rule.now) (recorded recording.now).operations) (lent seen.old working.old evidence.old) result (lent seen.new working.new evidence.new) }
 {
-    if !lengths_fit(seen, working, evidence) {
-        return Err(Refusal::WrongLength);
-    }
+    let seen = seen.as_mut_array::<WORDS>().ok_or(Refusal::WrongLength)?;
+    let working = working.as_mut_array::<WORDS>().ok_or(Refusal::WrongLength)?;
+    let evidence = evidence
+        .as_mut_array::<NUMBERS>()
+        .ok_or(Refusal::WrongLength)?;
     Ok(shared_verdict(recording, rule, seen, working, evidence))
 }
 
@@ -35,22 +38,29 @@ pub fn judge_shared<R: Rule>(
 fn shared_verdict<R: Rule>(
     recording: &Recording,
     rule: &R,
-    seen: &mut [u64],
-    working: &mut [u64],
-    evidence: &mut [u16],
+    seen: &mut [u64; WORDS],
+    working: &mut [u64; WORDS],
+    evidence: &mut [u16; NUMBERS],
 ) -> Verdict
-    requires seen { length seen.old ≡ 1024 }
-    requires working { length working.old ≡ 1024 }
-    requires evidence { length evidence.old ≡ 256 }
     ensures { SharedJudged (R.demands rule.now) (R.known rule.now) (recorded recording.now).operations result (related seen.new) evidence.old evidence.new }
 {
     least_visibility(recording, rule, seen);
-    let view = Table { words: seen };
-    let shown = show_violation(recording, view, evidence);
-    if shown.is_some() {
-        return Verdict::of(rule.label(), shown);
+    let scene = Scene::of(recording, seen);
+    Verdict::of(rule.label(), scene.check_shared(working, evidence))
+}
+
+impl Scene<'_> {
+    // Puts an order of all writes for all reads at the front of the evidence, and answers its length; or shows the first
+    // violation of the shared judgement that holds.
+    fn check_shared(
+        self,
+        working: &mut [u64; WORDS],
+        evidence: &mut [u16; NUMBERS],
+    ) -> Result<usize, Shown>
+        ensures { SharedSought (operations self.entry) (visible self.entry) evidence.old evidence.new result }
+    {
+        self.check_own(evidence)?;
+        put_conflicts(self.recording, self.seen, working);
+        self.arbitrate(Table { words: working }, evidence)
     }
-    put_conflicts(recording, view, working);
-    let outcome = arbitrate(recording, view, Table { words: working }, evidence);
-    Verdict::arbitrated(rule.label(), outcome)
 }

@@ -1,52 +1,40 @@
-//! How a verdict is made of what was found.
-ghost use Rattle.std.specs.Prelude.{◌≡◌, ◌≢◌};
-ghost use Rattle.relation.specs.declared.order.Outcome.TheVariants.{NoRoom};
-ghost use Rattle.judgement.specs.Showing.{verdict_of, arbitrated_of};
+//! How a verdict is made of what was found, and what it grants.
+ghost use Rattle.std.specs.Prelude.{◌≡◌};
+ghost use Rattle.judgement.specs.Ordered.{Granted};
+ghost use Rattle.judgement.specs.Showing.{verdict_of};
 
+use crate::refusal::Refusal;
 use crate::shown::Shown;
-use crate::verdict::{Verdict, Violation};
-use relation::Outcome;
+use crate::verdict::Verdict;
 
 impl Verdict {
-    // The verdict of what is shown, or of nothing.
-    pub(crate) fn of(label: u8, shown: Option<Shown>) -> Verdict
-        ensures { result ≡ verdict_of label shown }
+    // The verdict of the violation that is shown; or of none, with so many numbers of evidence.
+    pub(crate) fn of(label: u8, found: Result<usize, Shown>) -> Verdict
+        ensures { result ≡ verdict_of label found }
     {
-        match shown {
-            Some(shown) => Verdict {
-                label,
-                violation: Some(shown.violation),
-                station: 0,
-                count: shown.count,
-            },
-            None => Verdict {
+        match found {
+            Ok(count) => Verdict {
                 label,
                 violation: None,
                 station: 0,
-                count: 0,
+                count,
+            },
+            Err(shown) => Verdict {
+                label,
+                violation: Some(shown.violation),
+                station: shown.station,
+                count: shown.count,
             },
         }
     }
 
-    // The verdict of an order of all writes for all reads, or of a cycle.
-    pub(crate) fn arbitrated(label: u8, outcome: Outcome) -> Verdict
-        requires { outcome ≢ NoRoom }
-        ensures { result ≡ arbitrated_of label outcome }
+    // Refuses by 17 where the verdict is not explained.
+    pub(crate) fn grant(self) -> Result<(), Refusal>
+        ensures { Granted self result }
     {
-        match outcome {
-            Outcome::Order(count) => Verdict {
-                label,
-                violation: None,
-                station: 0,
-                count,
-            },
-            Outcome::Cycle(count) => Verdict {
-                label,
-                violation: Some(Violation::BadArb),
-                station: 0,
-                count,
-            },
-            Outcome::NoRoom => unreachable(),
+        match self.violation {
+            None => Ok(()),
+            Some(_) => Err(Refusal::NotExplained),
         }
     }
 }

@@ -1,6 +1,7 @@
-use Rattle.std.proofs.Common.{sym, subst}
+use Rattle.std.proofs.Common.{sym, ap, ◌∙◌, subst, subst₂, rules}
 use Rattle.recording.specs.Telling.{recorded}
 use Rattle.rows.specs.Members.{related}
+use Rattle.judgement.specs.Showing.{OwnSought, verdict_of}
 use Rattle.judgement.specs.Verdicts.{OwnJudged}
 use Rattle.judgement.proofs.Judging.{own_judged}
 use Rattle.judgement.proofs.Recordings.{valid_of}
@@ -10,8 +11,10 @@ pub returns : goal.returns
 returns g c =
     let D = g.R.Rule.demands c.args.rule.now in
     let known = g.R.Rule.known c.args.rule.now in
-    let ops = (recorded c.args.recording.now).operations in
+    let r = c.args.recording.now in
     let V = related c.least_visibility.new.table in
-    subst (λ v. OwnJudged D known ops v V c.args.evidence.now c.show_violation-shown.new.evidence) (sym c.of.ensures)
-    (own_judged D known c.label.result c.label.ensures ops (valid_of c.args.recording.now) V (c.least_visibility.ensures.least c.requires.seen) c.args.evidence.now c.show_violation-shown.new.evidence
-    c.show_violation-shown.result c.show_violation-shown.ensures)
+    let before = c.args.evidence.now in
+    let after = c.check_own.new.evidence in
+    subst (λ v. OwnJudged D known (recorded r).operations v V before after) (sym (c.of.ensures ∙ ap (verdict_of c.label.result) c.and.ensures))
+    (own_judged D known c.label.result c.label.ensures (recorded r).operations (valid_of r) V (c.least_visibility.ensures.least (search rules)) before after c.check_own.result
+    (subst₂ (λ r w. OwnSought (recorded r).operations (related w) before after c.check_own.result) c.of-scene.ensures.recording c.of-scene.ensures.seen c.check_own.ensures))

@@ -1,20 +1,19 @@
-use Rattle.std.proofs.Common.{sym, ◌∙◌, subst}
+use Rattle.std.proofs.Common.{sym, ap, ◌∙◌, subst, subst₂, rules}
 use Rattle.recording.specs.Telling.{recorded}
 use Rattle.rows.specs.Members.{related}
+use Rattle.judgement.specs.Stale.{SessionSought}
+use Rattle.judgement.specs.Showing.{verdict_of}
 use Rattle.judgement.specs.Verdicts.{SessionJudged}
+use Rattle.judgement.proofs.Sessioning.{session_judged}
 use Rattle.judgement.proofs.Recordings.{valid_of}
-use Rattle.judgement.proofs.Sessioning.{session_violated, session_judged}
 use Rattle.judgement.proofs.session.session_verdict.Goals as goal
-
-pub returns-then-is_some : goal.returns-then-is_some
-returns-then-is_some c =
-    let ops = (recorded c.args.recording.now).operations in
-    let V = related c.least_visibility.new.table in
-    subst (λ v. SessionJudged ops v V c.args.evidence.now c.show_violation-shown.new.evidence) (sym c.of.ensures)
-    (session_violated ops (valid_of c.args.recording.now) V (c.least_visibility.ensures.least c.requires.seen) c.args.evidence.now c.show_violation-shown.new.evidence
-    c.show_violation-shown.result (sym c.is_some.ensures ∙ c.if-is_some.true) c.show_violation-shown.ensures)
 
 pub returns : goal.returns
 returns c =
-    session_judged (recorded c.args.recording.now).operations (valid_of c.args.recording.now) (related c.least_visibility.new.table) (c.least_visibility.ensures.least c.requires.seen) c.args.evidence.now
-    c.show_stale.new.evidence c.show_violation-shown.new.evidence c.show_violation-shown.result (sym c.is_some.ensures ∙ c.if-is_some.false) c.show_violation-shown.ensures c.show_stale.result c.show_stale.ensures
+    let r = c.args.recording.now in
+    let V = related c.least_visibility.new.table in
+    let before = c.args.evidence.now in
+    let after = c.check_session.new.evidence in
+    subst (λ v. SessionJudged (recorded r).operations v V before after) (sym (c.of.ensures ∙ ap (verdict_of 0) c.and.ensures))
+    (session_judged (recorded r).operations (valid_of r) V (c.least_visibility.ensures.least (search rules)) before after c.check_session.result
+    (subst₂ (λ r w. SessionSought (recorded r).operations (related w) before after c.check_session.result) c.of-scene.ensures.recording c.of-scene.ensures.seen c.check_session.ensures))
