@@ -15,7 +15,7 @@ fn violation(calls: &[Call<'_>], question: Question) -> Result<Option<Violation>
         &mut [0; 1024],
         &mut [0; 256],
     ) {
-        Reply::Judged(Ok(verdict)) => Ok(verdict.violation),
+        Ok(Reply::Judged(verdict)) => Ok(verdict.violation),
         _ => Err(Fail::new("no verdict")),
     }
 }
@@ -60,7 +60,7 @@ fn a_run_with_refused_calls_is_judged(rt: HostRuntime) -> Result<(), Fail> {
         &mut evidence,
     );
     match reply {
-        Reply::Ordered(Ok(count)) => assert_eq!(rt; count, 3),
+        Ok(Reply::Ordered(count)) => assert_eq!(rt; count, 3),
         _ => return Err(Fail::new("no listing")),
     }
     assert_eq!(rt; [evidence[0], evidence[1], evidence[2]], [2, 0, 3]);

@@ -4,7 +4,9 @@ ghost use Rattle.judgement.specs.Verdicts.{lent};
 ghost use Rattle.examine.specs.Promise.{Promise, Replies};
 
 use crate::question::{Question, Reply};
-use judgement::{judge_own, judge_session, judge_shared, order_for_read, order_for_station};
+use judgement::{
+    Refusal, judge_own, judge_session, judge_shared, order_for_read, order_for_station,
+};
 use recording::Recording;
 use visibility::Rule;
 use words::{Call, told};
@@ -18,7 +20,7 @@ pub fn examine<R: Rule>(
     seen: &mut [u64],
     working: &mut [u64],
     evidence: &mut [u16],
-) -> Reply
+) -> Result<Reply, Refusal>
     ensures promise { Promise (R.demands rule.now) (R.known rule.now) calls.now question (lent seen.old working.old evidence.old) result (lent seen.new working.new evidence.new) }
 {
     let recording = told(calls);
@@ -33,18 +35,18 @@ fn ask<R: Rule>(
     seen: &mut [u64],
     working: &mut [u64],
     evidence: &mut [u16],
-) -> Reply
+) -> Result<Reply, Refusal>
     ensures { Replies (R.demands rule.now) (R.known rule.now) (recorded recording.now) question (lent seen.old working.old evidence.old) result (lent seen.new working.new evidence.new) }
 {
-    match question {
-        Question::Own => Reply::Judged(judge_own(recording, rule, seen, working, evidence)),
-        Question::Shared => Reply::Judged(judge_shared(recording, rule, seen, working, evidence)),
-        Question::Session => Reply::Judged(judge_session(recording, seen, working, evidence)),
+    Ok(match question {
+        Question::Own => Reply::Judged(judge_own(recording, rule, seen, working, evidence)?),
+        Question::Shared => Reply::Judged(judge_shared(recording, rule, seen, working, evidence)?),
+        Question::Session => Reply::Judged(judge_session(recording, seen, working, evidence)?),
         Question::OrderForRead(read) => Reply::Ordered(order_for_read(
             recording, rule, read, seen, working, evidence,
-        )),
+        )?),
         Question::OrderForStation(station) => Reply::Ordered(order_for_station(
             recording, station, seen, working, evidence,
-        )),
-    }
+        )?),
+    })
 }

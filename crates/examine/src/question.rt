@@ -1,5 +1,5 @@
 //! What can be asked about a recording, and what is answered.
-use judgement::{Refusal, Verdict};
+use judgement::Verdict;
 
 /// A question about a recording.
 #[derive(Clone, Copy)]
@@ -16,9 +16,9 @@ pub enum Question {
     OrderForStation(usize),
 }
 
-/// The answer: to a judgement a verdict, to an order its length; or why it is refused.
+/// The answer: to a judgement a verdict, to an order its length.
 #[derive(Clone, Copy)]
 pub enum Reply {
-    Judged(Result<Verdict, Refusal>),
-    Ordered(Result<usize, Refusal>),
+    Judged(Verdict),
+    Ordered(usize),
 }

@@ -81,15 +81,23 @@ impl Memory {
             &mut self.evidence,
         );
         match reply {
-            Reply::Judged(answer) => print_judgement(
+            Ok(Reply::Judged(verdict)) => print_judgement(
                 rt,
                 recording,
                 question,
-                answer,
+                verdict,
                 &self.seen,
                 &self.evidence,
             ),
-            Reply::Ordered(answer) => print_order(rt, question, answer, &self.evidence),
+            Ok(Reply::Ordered(count)) => {
+                print_asked(rt, question)?;
+                print_numbers(rt, "", count, &self.evidence)
+            }
+            Err(refusal) => {
+                print_asked(rt, question)?;
+                print!(rt; " ")?;
+                print_refusal(rt, refusal)
+            }
         }
     }
 }
@@ -99,19 +107,11 @@ fn print_judgement(
     rt: &HostRuntime,
     recording: &Recording,
     question: Question,
-    answer: Result<Verdict, Refusal>,
+    verdict: Verdict,
     seen: &[u64; 1024],
     evidence: &[u16; 256],
 ) -> io::Result<()> {
-    let name = texts::name(question);
-    let verdict = match answer {
-        Ok(verdict) => verdict,
-        Err(refusal) => {
-            print!(rt; "{name} ")?;
-            return print_refusal(rt, refusal);
-        }
-    };
-    print_finding(rt, name, question, verdict)?;
+    print_finding(rt, texts::name(question), question, verdict)?;
     if verdict.count > 0 {
         print_numbers(rt, "evidence", verdict.count, evidence)?;
     }
@@ -279,25 +279,14 @@ fn print_seen(rt: &HostRuntime, recording: &Recording, seen: Table<'_>) -> io::R
     Ok(())
 }
 
-// The order for a read or the listing of a station, or why there is none.
-fn print_order(
-    rt: &HostRuntime,
-    question: Question,
-    answer: Result<usize, Refusal>,
-    evidence: &[u16; 256],
-) -> io::Result<()> {
+// A question, at the beginning of the line of its answer.
+fn print_asked(rt: &HostRuntime, question: Question) -> io::Result<()> {
     let name = texts::name(question);
-    let number = match question {
-        Question::OrderForRead(number) | Question::OrderForStation(number) => number,
-        _ => 0,
-    };
-    print!(rt; "{name} {number}:")?;
-    match answer {
-        Ok(count) => print_numbers(rt, "", count, evidence),
-        Err(refusal) => {
-            print!(rt; " ")?;
-            print_refusal(rt, refusal)
+    match question {
+        Question::OrderForRead(number) | Question::OrderForStation(number) => {
+            print!(rt; "{name} {number}:")
         }
+        _ => print!(rt; "{name}"),
     }
 }
 

@@ -1,6 +1,7 @@
 -- The verdict of the session judgement.
 use Rattle.std.proofs.Common.{◌≡◌, ℕ, true, List, [], length, get_or, take, Some, None, Ok, Err, Result, sym, refl, ap, ◌∙◌, subst, true≢false, arith}
 use Rattle.std.proofs.lemmas.List.{length-take-le}
+use Rattle.std.proofs.lemmas.Bool.{false≢true}
 use Rattle.std.specs.Result.{result_and}
 use Rattle.recording.specs.declared.operation.Operation.{Operation}
 use Rattle.recording.specs.Stations.{LastOf}
@@ -18,59 +19,45 @@ use Rattle.judgement.specs.Ordered.{ListedPast}
 use Rattle.judgement.specs.Showing.{verdict_of}
 use Rattle.judgement.specs.Stale.{SessionSought}
 use Rattle.judgement.specs.Verdicts.{Absent, Finding, SessionJudged, ListingGiven, in_session}
-use Rattle.judgement.proofs.Judging.{violation_judged}
+use Rattle.judgement.proofs.Judging.{explained_judged, explains, looked_absent, unchanged, violation_judged}
 
 module _ (ops : List Operation) (valid : Valid ops) (V : Rel) (L : IsLeast CausalDemand ops V) (before after : List ℕ) where
   session_means : SessionExplained ops → (x : Violation) → in_session x ≡ true → Absent ops V x
-  session_means e ThinAir l = (session_own_clean ops valid V L e.0 e.1).thinair
-  session_means e BadVisibility l = (session_own_clean ops valid V L e.0 e.1).badvisibility
-  session_means e BadInitRead l = (session_own_clean ops valid V L e.0 e.1).badinitread
-  session_means e BadRead l = (session_own_clean ops valid V L e.0 e.1).badread
-  session_means e BadArb l = absurd (true≢false (sym l))
-  session_means e HbInitRead l = λ o last H I. let x = e.1.listings o last.inside in no_init ops valid V L e.0 e.1 o last x.0 x.1 H I
-  session_means e CyclicHb l = λ o last H I. let x = e.1.listings o last.inside in no_cyclic ops valid V L e.0 e.1 o last x.0 x.1 H I
+  session_means e =
+      let at = e.1.listings in
+      looked_absent ops V in_session (session_own_clean ops valid V L e.0 e.1) (λ l. absurd (false≢true l)) (λ l o last H I. let x = at o last.inside in no_init ops valid V L e.0 e.1 o last x.0 x.1 H I)
+      (λ l o last H I. let x = at o last.inside in no_cyclic ops valid V L e.0 e.1 o last x.0 x.1 H I)
 
   -- the answer of the session judgement
   pub session_judged : (r : Result (Unit {0}) Shown) → SessionSought ops V before after r → SessionJudged ops (verdict_of 0 (result_and r (Ok 0))) V before after
-  session_judged (Err s) f = violation_judged CausalDemand 0 0 refl ops valid V L before after in_session (SessionExplained ops) (λ V e. SessionExplains ops V × (e ≡ [])) session_means s f
+  session_judged (Err s) f = violation_judged CausalDemand 0 0 refl ops V L before after in_session (SessionExplained ops) (λ V e. SessionExplains ops V × (e ≡ [])) session_means s f
   session_judged (Ok u) f =
       let x = session_explains ops valid V L f.0 f.1 in
-      record {
-        explained_exactly_when_orders_exist = (λ z. (V, x), λ z. refl);
-        first_violation_with_its_evidence = (refl, (x, refl));
-        table_is_the_least_visibility = L;
-        count_within_the_buffer = omega arith;
-        past_the_count_unchanged = λ i h. ap (λ l. get_or l i 0) f.2;
-        label_of_the_rule = refl;
-      }
+      explained_judged CausalDemand 0 0 refl ops V L before after in_session (SessionExplained ops) (λ V e. SessionExplains ops V × (e ≡ [])) 0 (V, x) (x, refl) (omega arith) (λ i h. ap (λ l. get_or l i 0) f.2)
 
 -- a listing for a station, where the session judgement finds nothing
 module _ (ops : List Operation) (v : Verdict) (V : Rel) (before middle : List ℕ) (j : SessionJudged ops v V before middle) (none : v.violation ≡ None) (room : length middle ≡ 256) where
-  explains : SessionExplains ops V × (take v.count middle ≡ [])
-  explains = (subst (λ x. Finding in_session (λ e. SessionExplains ops V × (e ≡ [])) ops V x v.station (take v.count middle)) none j.first_violation_with_its_evidence).1
+  explained : SessionExplains ops V
+  explained = explains in_session (SessionExplained ops) (SessionExplains ops) CausalDemand 0 ops v V before middle j none
 
-  unchanged : Tail before middle 0
-  unchanged i h =
-      let few = j.count_within_the_buffer in
-      let long = length-take-le v.count middle (omega arith) in
-      let nil : length (take v.count middle) ≡ 0 = ap length explains.1 in
-      j.past_the_count_unchanged i (omega arith)
+  same : Tail before middle 0
+  same = unchanged in_session (SessionExplained ops) (SessionExplains ops) CausalDemand 0 ops v V before middle j none room
 
   module _ (station : ℕ) where
     pub listing_given : (o n : ℕ) (after : List ℕ) → LastOf ops station (Some o) → ListedPast ops V o n middle after → ListingGiven ops station n V before after
     listing_given o n after l p = record {
       lawful_listing = (Some o, l, p.listing);
-      explains = explains.0;
+      explains = explained;
       table_is_the_least_visibility = j.table_is_the_least_visibility;
       count_within_the_buffer = p.few;
-      past_the_listing_unchanged = λ i k. p.tail i k ∙ unchanged i (omega arith);
+      past_the_listing_unchanged = λ i k. p.tail i k ∙ same i (omega arith);
     }
 
     pub nothing_given : LastOf ops station None → ListingGiven ops station 0 V before middle
     nothing_given l = record {
       lawful_listing = (None, l, refl);
-      explains = explains.0;
+      explains = explained;
       table_is_the_least_visibility = j.table_is_the_least_visibility;
       count_within_the_buffer = omega arith;
-      past_the_listing_unchanged = unchanged;
+      past_the_listing_unchanged = same;
     }
