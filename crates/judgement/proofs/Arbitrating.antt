@@ -53,9 +53,9 @@ module _ (ops : List Operation) (V : Rel) (M : ℕ → Bool) (d : (k : ℕ) → 
       order_keeps a b v w c = ordered_precedes xs n fits Kept M o a b ((d a).1 v) ((d b).1 w) (both_kept a b (inr c))
 
 -- one order for all reads: K is conflict
-module _ (ops : List Operation) (V : Rel) (M : ℕ → Bool) (d : (k : ℕ) → Decides (M k) (IsWrite ops k)) (t : List ℕ) (tabled : Tabled ops V (length ops) 0 t) where
+module _ (ops : List Operation) (V : Rel) (M : ℕ → Bool) (d : (k : ℕ) → Decides (M k) (IsWrite ops k)) (t : List ℕ) (tabled : Tabled ops V (length ops) t) where
   conflict_decides : (a b : ℕ) → Decides (related t a b) (Conflict ops V a b)
-  conflict_decides a b = (λ h. let s = tabled.sound a b h in (s.0, s.2), λ c. tabled.whole a b c.0 (inl c.1.source.is_read.inside) c.1)
+  conflict_decides a b = (λ h. let s = tabled.sound a b h in (s.0, s.2), λ c. tabled.whole a b c.0 c.1.source.is_read.inside c.1)
 
   module _ (before after : List ℕ) (long : length after ≡ 256) where
     module _ (n : ℕ) where

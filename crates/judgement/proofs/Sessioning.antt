@@ -1,6 +1,5 @@
 -- The verdict of the session judgement.
-use Rattle.std.proofs.Common.{◌≡◌, ℕ, true, List, [], length, get_or, take, Some, None, Ok, Err, Result, sym, refl, ap, ◌∙◌, subst, true≢false, arith}
-use Rattle.std.proofs.lemmas.List.{length-take-le}
+use Rattle.std.proofs.Common.{◌≡◌, ℕ, true, List, [], length, get_or, Some, None, Ok, Err, Result, refl, ap, ◌∙◌, arith}
 use Rattle.std.proofs.lemmas.Bool.{false≢true}
 use Rattle.std.specs.Result.{result_and}
 use Rattle.recording.specs.declared.operation.Operation.{Operation}
@@ -14,11 +13,10 @@ use Rattle.sessions.proofs.Sessions.{session_own_clean, no_init, no_cyclic, sess
 use Rattle.judgement.specs.declared.shown.Shown.{Shown}
 use Rattle.judgement.specs.declared.verdict.Verdict.{Verdict}
 use Rattle.judgement.specs.declared.verdict.Violation.{Violation}
-use Rattle.judgement.specs.declared.verdict.Violation.TheVariants.{ThinAir, BadVisibility, BadInitRead, BadRead, BadArb, HbInitRead, CyclicHb}
 use Rattle.judgement.specs.Ordered.{ListedPast}
 use Rattle.judgement.specs.Showing.{verdict_of}
 use Rattle.judgement.specs.Stale.{SessionSought}
-use Rattle.judgement.specs.Verdicts.{Absent, Finding, SessionJudged, ListingGiven, in_session}
+use Rattle.judgement.specs.Verdicts.{Absent, SessionJudged, ListingGiven, in_session}
 use Rattle.judgement.proofs.Judging.{explained_judged, explains, looked_absent, unchanged, violation_judged}
 
 module _ (ops : List Operation) (valid : Valid ops) (V : Rel) (L : IsLeast CausalDemand ops V) (before after : List ℕ) where
@@ -32,7 +30,7 @@ module _ (ops : List Operation) (valid : Valid ops) (V : Rel) (L : IsLeast Causa
   pub session_judged : (r : Result (Unit {0}) Shown) → SessionSought ops V before after r → SessionJudged ops (verdict_of 0 (result_and r (Ok 0))) V before after
   session_judged (Err s) f = violation_judged CausalDemand 0 0 refl ops V L before after in_session (SessionExplained ops) (λ V e. SessionExplains ops V × (e ≡ [])) session_means s f
   session_judged (Ok u) f =
-      let x = session_explains ops valid V L f.0 f.1 in
+      let x = session_explains ops valid V L f.0 (λ o last. let z = f.1 o last in (z.0, z.1, z.2.0, z.2.1)) in
       explained_judged CausalDemand 0 0 refl ops V L before after in_session (SessionExplained ops) (λ V e. SessionExplains ops V × (e ≡ [])) 0 (V, x) (x, refl) (omega arith) (λ i h. ap (λ l. get_or l i 0) f.2)
 
 -- a listing for a station, where the session judgement finds nothing

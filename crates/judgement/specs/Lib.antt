@@ -5,5 +5,4 @@ pub mod Arbitrated
 pub mod Ordered
 pub mod Passing
 pub mod Stale
-pub mod Scenes
 pub mod Within

@@ -1,7 +1,7 @@
 //! One order of all writes for all reads, or a cycle of what it would have to keep.
 ghost use Rattle.std.specs.Prelude.{length};
 ghost use Rattle.judgement.specs.Arbitrated.{Arbitrated};
-ghost use Rattle.judgement.specs.Scenes.{operations, visible};
+ghost use Rattle.violations.specs.Views.{operations_of, seen_of};
 ghost use Rattle.violations.specs.Tabled.{Tabled};
 
 use crate::lending::NUMBERS;
@@ -20,13 +20,13 @@ impl Scene<'_> {
         conflicts: Table<'_>,
         evidence: &mut [u16; NUMBERS],
     ) -> Result<usize, Shown>
-        requires { Tabled (operations self) (visible self) (length (operations self)) 0 conflicts.words.now }
-        ensures { Arbitrated (operations self.entry) (visible self.entry) evidence.old evidence.new result }
+        requires { Tabled (operations_of self.view) (seen_of self.view) (length (operations_of self.view)) conflicts.words.now }
+        ensures { Arbitrated (operations_of self.entry.view) (seen_of self.entry.view) evidence.old evidence.new result }
     {
-        let mask = writes(self.recording);
+        let mask = writes(self.view.recording);
         let kept = Union {
             one: Narrowed {
-                relation: self.seen,
+                relation: self.view.seen,
                 mask,
             },
             other: conflicts,

@@ -13,7 +13,7 @@ use crate::refusal::Refusal;
 use recording::Recording;
 use relation::{Narrowed, Outcome, Union, order_or_cycle};
 use rows::Table;
-use violations::{forced, writes};
+use violations::{View, writes};
 use visibility::Rule;
 
 /// Puts an order of all writes that gives the read its value at the front of `evidence`, and answers its length.
@@ -56,22 +56,23 @@ fn own_order<R: Rule>(
 }
 
 // Puts an order for a read at the front of the evidence, and answers its length.
-fn order_writes(
-    recording: &Recording,
-    seen: Table<'_>,
+fn order_writes<'a>(
+    recording: &'a Recording,
+    seen: Table<'a>,
     read: usize,
     evidence: &mut [u16; NUMBERS],
 ) -> usize
     requires { OwnClean (recorded recording.now).operations (related seen.words.now) }
     ensures { OrderedFor (recorded recording.now).operations (related seen.entry.words.now) read result evidence.old evidence.new }
 {
+    let view = View { recording, seen };
     let mask = writes(recording);
     let kept = Union {
         one: Narrowed {
             relation: seen,
             mask,
         },
-        other: forced(recording, seen, read),
+        other: view.forced(read),
     };
     match order_or_cycle(&kept, mask, evidence) {
         Outcome::Order(count) => count,

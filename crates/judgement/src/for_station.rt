@@ -15,7 +15,8 @@ use crate::stale::last_of;
 use recording::Recording;
 use relation::{Outcome, order_or_cycle};
 use rows::Table;
-use sessions::{Listed, past_of, put_happened, station_reads};
+use sessions::{Listed, StationView, station_reads};
+use violations::View;
 
 /// Puts a lawful listing of the station's last operation at the front of `evidence`, and answers its length, which is 0 for a
 /// station without operations. Refuses by 8, by 2 if there is no such station, and by 17 if the session judgement is not
@@ -59,9 +60,9 @@ fn session_order(
 }
 
 // Puts a listing of the last operation of a station at the front of the evidence, and answers its length.
-fn list_past(
-    recording: &Recording,
-    seen: Table<'_>,
+fn list_past<'a>(
+    recording: &'a Recording,
+    seen: Table<'a>,
     last: usize,
     working: &mut [u64; WORDS],
     evidence: &mut [u16; NUMBERS],
@@ -71,12 +72,14 @@ fn list_past(
     requires session_explains { SessionExplains (recorded recording.now).operations (related seen.words.now) }
     ensures { ListedPast (recorded recording.now).operations (related seen.entry.words.now) last result evidence.old evidence.new }
 {
-    put_happened(recording, seen, last, working);
+    let view = View { recording, seen };
+    let here = StationView { view, last };
+    here.put_happened(working);
     let listed = Listed {
         happened: Table { words: working },
         reads: station_reads(recording, last),
     };
-    match order_or_cycle(&listed, past_of(recording, seen, last), evidence) {
+    match order_or_cycle(&listed, here.past(), evidence) {
         Outcome::Order(count) => count,
         _ => unreachable(),
     }

@@ -1,7 +1,7 @@
 //! Session judgement: each operation has a listing of what comes before it.
 ghost use Rattle.recording.specs.Telling.{recorded};
 ghost use Rattle.rows.specs.Members.{related};
-ghost use Rattle.judgement.specs.Scenes.{operations, visible};
+ghost use Rattle.violations.specs.Views.{operations_of, seen_of};
 ghost use Rattle.judgement.specs.Stale.{SessionSought, StationsSought};
 ghost use Rattle.judgement.specs.Verdicts.{JudgementAnswer, SessionJudged, lent};
 
@@ -53,7 +53,7 @@ impl Scene<'_> {
         working: &mut [u64; WORDS],
         evidence: &mut [u16; NUMBERS],
     ) -> Result<(), Shown>
-        ensures { SessionSought (operations self.entry) (visible self.entry) evidence.old evidence.new result }
+        ensures { SessionSought (operations_of self.entry.view) (seen_of self.entry.view) evidence.old evidence.new result }
     {
         self.check_own(evidence)?;
         self.check_stations(working, evidence)
@@ -65,7 +65,7 @@ impl Scene<'_> {
         working: &mut [u64; WORDS],
         evidence: &mut [u16; NUMBERS],
     ) -> Result<(), Shown>
-        ensures { StationsSought (operations self.entry) (visible self.entry) evidence.old evidence.new result }
+        ensures { StationsSought (operations_of self.entry.view) (seen_of self.entry.view) evidence.old evidence.new result }
     {
         match self.pass_stations(working) {
             Ok(None) => Ok(()),

@@ -2,7 +2,7 @@
 ghost use Rattle.recording.specs.Telling.{recorded};
 ghost use Rattle.rows.specs.Members.{related};
 ghost use Rattle.judgement.specs.Arbitrated.{SharedSought};
-ghost use Rattle.judgement.specs.Scenes.{operations, visible};
+ghost use Rattle.violations.specs.Views.{operations_of, seen_of};
 ghost use Rattle.judgement.specs.Verdicts.{JudgementAnswer, SharedJudged, lent};
 
 use crate::lending::{NUMBERS, WORDS};
@@ -12,7 +12,6 @@ use crate::shown::Shown;
 use crate::verdict::Verdict;
 use recording::Recording;
 use rows::Table;
-use violations::put_conflicts;
 use visibility::{Rule, least_visibility};
 
 /// Whether one order of all writes gives every read its value, under a visibility as the rule demands it.
@@ -57,10 +56,10 @@ impl Scene<'_> {
         working: &mut [u64; WORDS],
         evidence: &mut [u16; NUMBERS],
     ) -> Result<usize, Shown>
-        ensures { SharedSought (operations self.entry) (visible self.entry) evidence.old evidence.new result }
+        ensures { SharedSought (operations_of self.entry.view) (seen_of self.entry.view) evidence.old evidence.new result }
     {
         self.check_own(evidence)?;
-        put_conflicts(self.recording, self.seen, working);
+        self.view.put_conflicts(working);
         self.arbitrate(Table { words: working }, evidence)
     }
 }

@@ -2,16 +2,17 @@
 ghost use Rattle.std.specs.Prelude.{◌≡◌, ◌+◌, ◌<◌, length};
 ghost use Rattle.recording.specs.Stations.{LastOf};
 ghost use Rattle.recording.specs.Telling.{recorded};
-ghost use Rattle.judgement.specs.Passing.{FoundAt, Passed, PassedTo};
-ghost use Rattle.judgement.specs.Scenes.{operations, visible};
+ghost use Rattle.rows.specs.Members.{related};
+ghost use Rattle.judgement.specs.Passing.{FoundAt, FoundIn, Passed, PassedTo};
+ghost use Rattle.violations.specs.Views.{operations_of, seen_of};
 
 use crate::lending::WORDS;
 use crate::scene::Scene;
 use crate::stale::AtStation;
 use recording::Recording;
 use rows::Table;
-use sessions::{cyclic_hb, hb_init_read, put_happened};
-use violations::{Pair, Rivals};
+use sessions::StationView;
+use violations::{Pair, Rivals, View};
 
 // The last operation of a station.
 pub(crate) fn last_of(recording: &Recording, station: usize) -> Option<usize>
@@ -27,10 +28,10 @@ impl Scene<'_> {
         self,
         working: &mut [u64; WORDS],
     ) -> Result<Option<AtStation<Rivals>>, AtStation<Pair>>
-        ensures { PassedTo (operations self.entry) (visible self.entry) (recorded self.entry.recording.now).stations result }
+        ensures { PassedTo (operations_of self.entry.view) (seen_of self.entry.view) (recorded self.entry.view.recording.now).stations result }
     {
         let mut cyclic = None;
-        for station in 0..self.recording.stations() {
+        for station in 0..self.view.recording.stations() {
             cyclic = self.pass(working, station, cyclic)?;
         }
         Ok(cyclic)
@@ -43,11 +44,11 @@ impl Scene<'_> {
         station: usize,
         cyclic: Option<AtStation<Rivals>>,
     ) -> Result<Option<AtStation<Rivals>>, AtStation<Pair>>
-        requires station { station < (recorded self.recording.now).stations }
-        requires passed { Passed (operations self) (visible self) station cyclic }
-        ensures { PassedTo (operations self.entry) (visible self.entry) (station + 1) result }
+        requires station { station < (recorded self.view.recording.now).stations }
+        requires passed { Passed (operations_of self.view) (seen_of self.view) station cyclic }
+        ensures { PassedTo (operations_of self.entry.view) (seen_of self.entry.view) (station + 1) result }
     {
-        let Some(last) = last_of(self.recording, station) else {
+        let Some(last) = last_of(self.view.recording, station) else {
             return Ok(cyclic);
         };
         match self.find_at(last, working) {
@@ -67,14 +68,27 @@ impl Scene<'_> {
 
     // What stands against the station of its last operation: violation 6, as an error; else violation 7.
     fn find_at(self, last: usize, working: &mut [u64; WORDS]) -> Result<Option<Rivals>, Pair>
-        requires { last < length (operations self) }
-        ensures { FoundAt (operations self.entry) (visible self.entry) last result }
+        requires { last < length (operations_of self.view) }
+        ensures { FoundAt (operations_of self.entry.view) (seen_of self.entry.view) last result }
     {
-        put_happened(self.recording, self.seen, last, working);
-        let happened = Table { words: working };
-        match hb_init_read(self.recording, last, happened) {
-            Some(pair) => Err(pair),
-            None => Ok(cyclic_hb(self.recording, last, happened)),
-        }
+        let view = self.view;
+        StationView { view, last }.put_happened(working);
+        find_in(view.recording, Table { words: working }, last)
+    }
+}
+
+// What stands against a station of what has happened before what: violation 6, as an error; else violation 7.
+fn find_in<'a>(
+    recording: &'a Recording,
+    seen: Table<'a>,
+    last: usize,
+) -> Result<Option<Rivals>, Pair>
+    ensures { FoundIn (recorded recording.now).operations last (related seen.entry.words.now) result }
+{
+    let view = View { recording, seen };
+    let happened = StationView { view, last };
+    match happened.hb_init_read() {
+        Some(pair) => Err(pair),
+        None => Ok(happened.cyclic_hb()),
     }
 }

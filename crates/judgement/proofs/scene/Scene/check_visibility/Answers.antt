@@ -3,7 +3,7 @@ use Rattle.std.proofs.lemmas.List.{length-replicate, length-take-le}
 use Rattle.std.proofs.lemmas.Bool.{lt-ltb}
 use Rattle.rows.specs.Members.{member}
 use Rattle.violations.specs.Explained.{In}
-use Rattle.judgement.specs.Scenes.{operations, visible}
+use Rattle.violations.specs.Views.{operations_of, seen_of}
 use Rattle.judgement.specs.Verdicts.{Cycle}
 use Rattle.judgement.proofs.Fronts.{ring_cycle_of, no_cycle, within_acyclic}
 use Rattle.judgement.proofs.Recordings.{few_of}
@@ -11,7 +11,7 @@ use Rattle.judgement.proofs.scene.Scene.check_visibility.Goals as goal
 
 pub returns-in-Cycle : goal.returns-in-Cycle
 returns-in-Cycle c =
-    let V = visible c.args.self in
+    let V = seen_of c.args.self.view in
     let list = c.order_or_cycle.new.out in
     let n = c.in-Cycle.count in
     let found = c.in-Cycle.ensures.found in
@@ -28,10 +28,10 @@ returns-in-Cycle c =
 
 pub returns-in_default : goal.returns-in_default
 returns-in_default c =
-    let V = visible c.args.self in
+    let V = seen_of c.args.self.view in
     let M = member c.below.result in
-    let ops = operations c.args.self in
-    let most = few_of c.args.self.recording.now in
+    let ops = operations_of c.args.self.view in
+    let most = few_of c.args.self.view.recording.now in
     let inside : (a : ℕ) → a < length ops → M a ≡ true = λ a h. c.below.ensures a ∙ lt-ltb a (min c.count.result 256) (omega arith) in (
       within_acyclic V M (λ a b h. let w = c.args.self.within a b h in (inside a w.0, inside b w.1))
           (no_cycle V M (replicate 256 0) c.order_or_cycle.new.out c.order_or_cycle.result c.order_or_cycle.ensures.found c.order_or_cycle.ensures.exactly (omega (arith, length-replicate {A = ℕ} 256 0)) c.in_default.not-Cycle),

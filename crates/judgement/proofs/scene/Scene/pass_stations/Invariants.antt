@@ -1,6 +1,6 @@
 use Rattle.judgement.specs.Passing.{Passed}
-use Rattle.judgement.specs.Scenes.{operations, visible}
+use Rattle.violations.specs.Views.{operations_of, seen_of}
 use Rattle.judgement.proofs.scene.Scene.pass_stations.Given as goal
 
 abbrev pub invariant-loop-station : goal.invariant-loop-station
-invariant-loop-station l = Passed (operations l.self) (visible l.self) l.station l.cyclic
+invariant-loop-station l = Passed (operations_of l.self.view) (seen_of l.self.view) l.station l.cyclic
