@@ -1,5 +1,6 @@
 //! What can be asked about a recording, and what is answered.
 use judgement::Verdict;
+use std::fmt;
 
 /// A question about a recording.
 #[derive(Clone, Copy)]
@@ -21,4 +22,16 @@ pub enum Question {
 pub enum Reply {
     Judged(Verdict),
     Ordered(usize),
+}
+
+impl fmt::Display for Question {
+    fn fmt<W: fmt::Write>(&self, f: &mut fmt::Formatter<W>) -> fmt::Result {
+        match self {
+            Question::Own => write!(f, "own"),
+            Question::Shared => write!(f, "shared"),
+            Question::Session => write!(f, "session"),
+            Question::OrderForRead(read) => write!(f, "order {read}"),
+            Question::OrderForStation(station) => write!(f, "listing {station}"),
+        }
+    }
 }

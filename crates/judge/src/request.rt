@@ -1,5 +1,8 @@
 //! What the arguments ask for: the rule, and what is printed besides the verdicts.
-use visibility::{Late, TermList};
+use std::env::Args;
+use std::fmt;
+use std::num::ParseIntError;
+use visibility::{Late, LateRefusal, Misspelled, TermList};
 
 /// A rule that the arguments name.
 #[derive(Clone, Copy)]
@@ -23,103 +26,85 @@ pub struct Request {
 pub enum Unusable {
     /// A word that is none of the program's, or one too few.
     Words,
-    /// A distance that the late rule refuses, by that number.
-    Distance(u8),
-    /// A spelling that the term list refuses, by that number and at that place.
-    Spelling(u8, usize),
+    /// A distance that the late rule refuses.
+    Late(LateRefusal),
+    /// A spelling that the term list refuses.
+    Terms(Misspelled),
 }
 
-// What the next word is.
-#[derive(Clone, Copy)]
-enum Awaited {
-    Word,
-    Distance,
-    Spelling,
-    Read,
-    Station,
+impl From<ParseIntError> for Unusable {
+    fn from(_error: ParseIntError) -> Unusable {
+        Unusable::Words
+    }
 }
 
-/// The arguments, word after word.
-#[derive(Clone, Copy)]
-pub struct Arguments {
-    request: Request,
-    awaited: Awaited,
+impl From<LateRefusal> for Unusable {
+    fn from(refusal: LateRefusal) -> Unusable {
+        Unusable::Late(refusal)
+    }
 }
 
-impl Arguments {
-    /// No words: the causal rule, and the verdicts alone.
-    pub fn none() -> Arguments {
-        Arguments {
-            request: Request {
-                rule: Chosen::Causal,
-                sees: false,
-                order: None,
-                listing: None,
-            },
-            awaited: Awaited::Word,
+impl From<Misspelled> for Unusable {
+    fn from(misspelled: Misspelled) -> Unusable {
+        Unusable::Terms(misspelled)
+    }
+}
+
+impl fmt::Display for Unusable {
+    fn fmt<W: fmt::Write>(&self, f: &mut fmt::Formatter<W>) -> fmt::Result {
+        match self {
+            Unusable::Words => f.write_str(
+                "arguments: [causal | late DISTANCE | terms SPELLING] [sees] [order READ] [listing STATION]",
+            ),
+            Unusable::Late(refusal) => {
+                write!(f, "late: refused by {}, {refusal}", refusal.number())
+            }
+            Unusable::Terms(misspelled) => {
+                let (number, place) = (misspelled.number(), misspelled.place);
+                write!(f, "terms: refused by {number} at {place}, {misspelled}")
+            }
         }
     }
+}
 
-    /// One word more.
-    pub fn take(&mut self, word: &str) -> Result<(), Unusable> {
-        let awaited = self.awaited;
-        self.awaited = Awaited::Word;
-        match awaited {
-            Awaited::Word => self.begin(word)?,
-            Awaited::Distance => self.request.rule = late(word)?,
-            Awaited::Spelling => self.request.rule = terms(word)?,
-            Awaited::Read => self.request.order = Some(number(word)?),
-            Awaited::Station => self.request.listing = Some(number(word)?),
+impl Request {
+    /// What the arguments ask for, after the program's name. Without any: the causal rule, and the verdicts alone.
+    pub fn read(mut words: Args) -> Result<Request, Unusable> {
+        let mut request = Request {
+            rule: Chosen::Causal,
+            sees: false,
+            order: None,
+            listing: None,
+        };
+        words.next();
+        while let Some(word) = words.next() {
+            match word.as_str() {
+                "causal" => request.rule = Chosen::Causal,
+                "late" => request.rule = late(words.next())?,
+                "terms" => request.rule = terms(words.next())?,
+                "sees" => request.sees = true,
+                "order" => request.order = Some(number(words.next())?),
+                "listing" => request.listing = Some(number(words.next())?),
+                _ => return Err(Unusable::Words),
+            }
         }
-        Ok(())
-    }
-
-    // A word that stands alone, or says what the next one is.
-    fn begin(&mut self, word: &str) -> Result<(), Unusable> {
-        match word {
-            "causal" => self.request.rule = Chosen::Causal,
-            "late" => self.awaited = Awaited::Distance,
-            "terms" => self.awaited = Awaited::Spelling,
-            "sees" => self.request.sees = true,
-            "order" => self.awaited = Awaited::Read,
-            "listing" => self.awaited = Awaited::Station,
-            _ => return Err(Unusable::Words),
-        }
-        Ok(())
-    }
-
-    /// What all the words ask for.
-    pub fn finish(self) -> Result<Request, Unusable> {
-        match self.awaited {
-            Awaited::Word => Ok(self.request),
-            _ => Err(Unusable::Words),
-        }
+        Ok(request)
     }
 }
 
 // The late rule with a distance in decimal.
-fn late(word: &str) -> Result<Chosen, Unusable> {
-    let Ok(distance) = word.parse::<u32>() else {
-        return Err(Unusable::Words);
-    };
-    match Late::new(distance) {
-        Ok(late) => Ok(Chosen::Late(late)),
-        Err(refusal) => Err(Unusable::Distance(refusal.number())),
-    }
+fn late(word: Option<String>) -> Result<Chosen, Unusable> {
+    let distance = word.ok_or(Unusable::Words)?.as_str().parse()?;
+    Ok(Chosen::Late(Late::new(distance)?))
 }
 
 // The term list with a spelling.
-fn terms(word: &str) -> Result<Chosen, Unusable> {
-    match TermList::spelled(word.as_bytes()) {
-        Ok(terms) => Ok(Chosen::Terms(terms)),
-        Err(refusal) => Err(Unusable::Spelling(refusal.number(), refusal.place)),
-    }
+fn terms(word: Option<String>) -> Result<Chosen, Unusable> {
+    let spelling = word.ok_or(Unusable::Words)?;
+    Ok(Chosen::Terms(TermList::spelled(spelling.as_bytes())?))
 }
 
 // The number of an operation or of a station in decimal.
-fn number(word: &str) -> Result<usize, Unusable> {
-    match word.parse::<usize>() {
-        Ok(number) => Ok(number),
-        Err(_) => Err(Unusable::Words),
-    }
+fn number(word: Option<String>) -> Result<usize, Unusable> {
+    Ok(word.ok_or(Unusable::Words)?.as_str().parse()?)
 }

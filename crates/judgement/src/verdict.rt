@@ -75,3 +75,12 @@ impl Verdict {
         }
     }
 }
+
+impl fmt::Display for Verdict {
+    fn fmt<W: fmt::Write>(&self, f: &mut fmt::Formatter<W>) -> fmt::Result {
+        match self.violation {
+            Some(violation) => write!(f, "{violation}"),
+            None => write!(f, "explained"),
+        }
+    }
+}

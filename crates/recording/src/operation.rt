@@ -1,6 +1,8 @@
 //! One operation of a recording.
 ghost use Rattle.std.specs.Prelude.{◌≡◌};
 
+use std::fmt;
+
 /// What an operation does with its register.
 #[derive(Clone, Copy, Default, PartialEq, Eq)]
 pub enum Kind {
@@ -26,5 +28,20 @@ impl Operation {
         ensures { result ≡ gives self.now register value }
     {
         self.kind == Kind::Write && self.register == register && self.value == value
+    }
+}
+
+impl fmt::Display for Operation {
+    fn fmt<W: fmt::Write>(&self, f: &mut fmt::Formatter<W>) -> fmt::Result {
+        let Operation {
+            station,
+            register,
+            value,
+            ..
+        } = self;
+        match self.kind {
+            Kind::Write => write!(f, "station {station} writes {value} to register {register}"),
+            Kind::Read => write!(f, "station {station} reads {value} from register {register}"),
+        }
     }
 }

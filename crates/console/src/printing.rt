@@ -1,0 +1,60 @@
+//! Prints what calls answer, and what a recording holds.
+use recording::Recording;
+use std::io;
+use words::{Answer, CallRefusal, copy};
+
+/// What a call of a line answers: a number or a refusal.
+pub fn print_answer(
+    rt: &impl Print,
+    number: u64,
+    text: &str,
+    answer: Result<Answer, CallRefusal>,
+) -> io::Result<()> {
+    print!(rt; "line {number}: {text}: ")?;
+    match answer {
+        Ok(Answer::Started) => println!(rt; "started"),
+        Ok(Answer::Told(operation)) => println!(rt; "operation {operation}"),
+        Ok(Answer::Loaded(count)) => println!(rt; "{count} operations loaded"),
+        Err(CallRefusal::Recording(refusal)) => {
+            println!(rt; "refused by {}, {refusal}", refusal.number())
+        }
+        Err(CallRefusal::Load(refusal)) => {
+            println!(rt;
+                "refused by {} at word {}",
+                refusal.number(),
+                refusal.place()
+            )
+        }
+    }
+}
+
+/// All operations, and for each read its source.
+pub fn print_operations(rt: &impl Print, recording: &Recording) -> io::Result<()> {
+    let operations = recording.operations();
+    println!(rt; "{} operations, stations {}:", operations.len(), recording.stations())?;
+    for (number, operation) in operations.iter().enumerate() {
+        print!(rt; "{number}: {operation}")?;
+        match recording.source(number) {
+            Ok(Some(source)) => println!(rt; ", source {source}")?,
+            Ok(None) => println!(rt; ", no source")?,
+            Err(_) => println!(rt; "")?,
+        }
+    }
+    Ok(())
+}
+
+/// The words of the recording, and that they load back equal.
+pub fn print_words(rt: &impl Print, recording: &Recording) -> io::Result<()> {
+    let mut words = [0u32; 258];
+    let mut copied = Recording::unstarted();
+    match copy(recording, &mut words, &mut copied) {
+        Ok(count) => {
+            println!(rt; "{count} words:")?;
+            for word in &words[0..count] {
+                println!(rt; "{word:08X}")?;
+            }
+            println!(rt; "loaded back: equal")
+        }
+        Err(refusal) => println!(rt; "the words are refused by {}", refusal.number()),
+    }
+}
