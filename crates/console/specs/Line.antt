@@ -1,5 +1,5 @@
 -- What a line of a recording in text says.
-use Rattle.std.specs.Prelude.{◌≡◌, ℕ, ◌<◌, ◌^◌, ◌⊎◌, ⊤, List, [], ◌∷◌, length, slice_index, slice_index_or, codes, Some, None, Option, Ok, Err, Result, IsOk}
+use Rattle.std.specs.Prelude.{◌≡◌, ℕ, ◌<◌, ◌^◌, ◌⊎◌, ⊤, List, [], ◌∷◌, length, slice_index, slice_index_or, codes, Some, None, Option, Ok, Result, IsOk}
 use Rattle.std.specs.Borrow.{Bor}
 use Rattle.std.specs.Result.{OkIff}
 use Rattle.std.specs.Str.Iter.{split_whitespace_rest, split_whitespace_steps}
