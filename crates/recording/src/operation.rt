@@ -41,7 +41,10 @@ impl fmt::Display for Operation {
         } = self;
         match self.kind {
             Kind::Write => write!(f, "station {station} writes {value} to register {register}"),
-            Kind::Read => write!(f, "station {station} reads {value} from register {register}"),
+            Kind::Read => write!(
+                f,
+                "station {station} reads {value} from register {register}"
+            ),
         }
     }
 }
