@@ -12,7 +12,7 @@ use Rattle.words.specs.declared.record.Placed.{Placed}
 use Rattle.words.specs.Reading.{Reading, ground_of, said_at, width_of, pass, heard, Next}
 use Rattle.words.specs.Loading.{Heard, Means, ToldAnswer, LoadsFrom}
 
-pub width_some : (s : Said) → 1 ≤ width_of s
+width_some : (s : Said) → 1 ≤ width_of s
 width_some (opening stations) = omega arith
 width_some (write station register value) = omega arith
 width_some (read station register value) = omega arith
@@ -22,10 +22,6 @@ width_some (closing count) = omega arith
 -- fewer words are left after a record
 pub fewer : (r : Reading) (s : Said) → 1 ≤ length r.rest → length (pass r s).rest < length r.rest
 fewer r s h = omega (arith, length-drop (width_of s) r.rest, width_some s)
-
-pub said_some : (l : List ℕ) (s : Said) → said_at l ≡ Some s → 1 ≤ length l
-said_some [] s e = absurd (let z : ◌≡◌ {A = ℕ} 0 1 = cc in omega arith)
-said_some (w ∷ l) s e = omega arith
 
 abbrev Meaning : Reading → Type 0
 Meaning r = (hs : List Heard) × (end : Option Misread) × Means r hs end

@@ -1,5 +1,6 @@
 -- What a run of calls settles follows from call to call, and is one recording.
 use Rattle.std.proofs.Common.{◌≡◌, ℕ, ◌⊎◌, List, [], ◌∷◌, ◌++◌, map, Some, None, Ok, Err, Option, Result, sym, refl, ap, ◌∙◌, subst, inl, inr, append_assoc, append-nil, arith}
+use Rattle.std.proofs.lemmas.List.{map_push}
 use Rattle.recording.specs.declared.operation.Operation.{Operation}
 use Rattle.recording.specs.declared.refusal.Refusal.{Refusal}
 use Rattle.recording.specs.Operations.{write_of, read_of}
@@ -21,17 +22,13 @@ use Rattle.words.specs.Runs.{Event, started, took, Since, event_of, Tellings, Ac
 since_none : Since [] (empty 1)
 since_none = inl (refl, refl)
 
-map_push : (ops : List Operation) (x : Operation) → map took ops ++ took x ∷ [] ≡ map took (ops ++ x ∷ [])
-map_push [] x = refl
-map_push (y ∷ ops) x = ap (λ l. took y ∷ l) (map_push ops x)
-
 since_took : (es : List Event) (b : Recorded) (x : Operation) → Since es b → Since (es ++ took x ∷ []) (with b x)
-since_took es b x (inl s) = inl (s.0, ap (λ l. l ++ took x ∷ []) s.1 ∙ map_push b.operations x)
+since_took es b x (inl s) = inl (s.0, ap (λ l. l ++ took x ∷ []) s.1 ∙ sym (map_push took b.operations x))
 since_took es b x (inr s) =
     inr (
       s.0,
       ap (λ l. l ++ took x ∷ []) s.1 ∙ append_assoc s.0 (started b.stations ∷ map took b.operations) (took x ∷ [])
-          ∙ ap (λ l. s.0 ++ started b.stations ∷ l) (map_push b.operations x),
+          ∙ ap (λ l. s.0 ++ started b.stations ∷ l) (sym (map_push took b.operations x)),
     )
 
 pub since_more : (es : List Event) (b : Recorded) (s : Said) → Since es b → Since (es ++ event_of s) (told b s)
@@ -124,15 +121,12 @@ settles_none = ([], refl, since_none)
 
 -- ── One recording ──
 
-none_some : {A : Type 0} (o : Option A) (x : A) → o ≡ None → o ≡ Some x → ⊥
-none_some o x p q = let z : ◌≡◌ {A = ℕ} 0 1 = cc in omega arith
-
 means_one : (r : Reading) (hs hs' : List Heard) (end end' : Option Misread) → Means r hs end → Means r hs' end' → hs ≡ hs'
 means_one r [] [] end end' m m' = refl
-means_one r [] (h ∷ hs) None end' m m' = absurd (none_some (said_at r.rest) h.said (ap said_at m.1) m'.1)
-means_one r [] (h ∷ hs) (Some e) end' m m' = absurd (none_some _ _ m'.0 m.0)
-means_one r (h ∷ hs) [] end None m m' = absurd (none_some (said_at r.rest) h.said (ap said_at m'.1) m.1)
-means_one r (h ∷ hs) [] end (Some e) m m' = absurd (none_some _ _ m.0 m'.0)
+means_one r [] (h ∷ hs) None end' m m' = absurd (cc (ap said_at m.1, m'.1))
+means_one r [] (h ∷ hs) (Some e) end' m m' = absurd (cc (m'.0, m.0))
+means_one r (h ∷ hs) [] end None m m' = absurd (cc (ap said_at m'.1, m.1))
+means_one r (h ∷ hs) [] end (Some e) m m' = absurd (cc (m.0, m'.0))
 means_one r (h ∷ hs) (k ∷ ks) end end' m m' =
     let said : h.said ≡ k.said = cc (m.1, m'.1) in
     let place : h.place ≡ k.place = m.2 ∙ sym m'.2 in
@@ -149,24 +143,12 @@ tellings_one (Load words) said said' (inr t) (inl t') = absurd (omega (arith, t.
 tellings_one (Load words) said said' (inr t) (inr t') =
     t.4 ∙ ap (map (λ h. h.said)) (means_one (at_start words.now) t.1 t'.1 t.2 t'.2 t.3 t'.3) ∙ sym t'.4
 
--- one part of what is told
-accepts_step : (s : Said) (said : List Said) (es a a' : List Event) → Accepts es (s ∷ said) a → Accepts es (s ∷ said) a'
-    → (Accepts (es ++ event_of s) said a → Accepts (es ++ event_of s) said a' → a ≡ a') → a ≡ a'
-accepts_step s said es a a' t t' on = go t.2 t'.2
-  where
-    same : tell_ground t.0 s ≡ tell_ground t'.0 s
-    same = ap (λ r. tell_ground r s) (since_one es t.0 t'.0 t.1 t'.1)
-
-    go : ((tell_ground t.0 s ≡ None) × Accepts (es ++ event_of s) said a) ⊎ ((e : Refusal) × (tell_ground t.0 s ≡ Some e) × (a ≡ es))
-        → ((tell_ground t'.0 s ≡ None) × Accepts (es ++ event_of s) said a') ⊎ ((e : Refusal) × (tell_ground t'.0 s ≡ Some e) × (a' ≡ es)) → a ≡ a'
-    go (inl u) (inl u') = on u.1 u'.1
-    go (inl u) (inr u') = absurd (none_some _ _ u.0 (same ∙ u'.1))
-    go (inr u) (inl u') = absurd (none_some _ _ u'.0 (sym same ∙ u.1))
-    go (inr u) (inr u') = u.2 ∙ sym u'.2
-
 accepts_same : (said : List Said) (es a a' : List Event) → Accepts es said a → Accepts es said a' → a ≡ a'
 accepts_same [] es a a' t t' = t ∙ sym t'
-accepts_same (s ∷ said) es a a' t t' = accepts_step s said es a a' t t' (accepts_same said (es ++ event_of s) a a')
+accepts_same (s ∷ said) es a a' (r, since, inl t) (r', since', inl t') = accepts_same said (es ++ event_of s) a a' t.1 t'.1
+accepts_same (s ∷ said) es a a' (r, since, inl t) (r', since', inr t') = absurd (cc (t.0, t'.1, ap (λ z. tell_ground z s) (since_one es r r' since since')))
+accepts_same (s ∷ said) es a a' (r, since, inr t) (r', since', inl t') = absurd (cc (t.1, t'.0, ap (λ z. tell_ground z s) (since_one es r r' since since')))
+accepts_same (s ∷ said) es a a' (r, since, inr t) (r', since', inr t') = t.2 ∙ sym t'.2
 
 runs_one : (calls : List Call) (es a a' : List Event) → Runs es calls a → Runs es calls a' → a ≡ a'
 runs_one [] es a a' t t' = t ∙ sym t'
