@@ -1,5 +1,5 @@
 -- The words of a recording load back as that recording.
-use Rattle.std.proofs.Common.{◌≡◌, ℕ, ◌+◌, ◌*◌, ◌^◌, ◌<◌, ◌≤◌, false, List, [], ◌∷◌, ◌++◌, map, length, take, drop, Some, None, Ok, Result, sym, refl, ap, ◌∙◌, subst, inl, inr, append_assoc, append-nil, arith, length-append}
+use Rattle.std.proofs.Common.{◌≡◌, ℕ, ◌+◌, ◌*◌, ◌^◌, ◌<◌, ◌≤◌, List, [], ◌∷◌, ◌++◌, map, length, take, drop, Some, None, Ok, Result, sym, refl, ap, ◌∙◌, subst, inl, inr, append_assoc, append-nil, arith, length-append}
 use lib.ListN.{length-map}
 use lib.Seq.{get_or-append_seam}
 use Rattle.std.proofs.lemmas.List.{length_push, get_or_append_left, take_at}
@@ -11,14 +11,14 @@ use Rattle.recording.specs.declared.operation.Operation.{Operation}
 use Rattle.recording.specs.declared.recording.Recording.{Recording}
 use Rattle.recording.specs.Lawful.{InRange, NonZero, Apart}
 use Rattle.recording.specs.Operations.{write_of, read_of, at}
-use Rattle.recording.specs.Telling.{Recorded, recorded, with, start_ground, write_ground, read_ground, Allowed}
+use Rattle.recording.specs.Telling.{Recorded, recorded, start_ground, write_ground, read_ground, Allowed}
 use Rattle.recording.proofs.Operations.{written_false}
 use Rattle.words.specs.declared.kind.WordKind.{WordKind}
 use Rattle.words.specs.declared.kind.WordKind.TheVariants.{Note, Write, Read, Opening, Closing}
 use Rattle.words.specs.declared.loading.LoadRefusal.{LoadRefusal}
-use Rattle.words.specs.declared.reader.Phase.TheVariants.{Before, Between}
-use Rattle.words.specs.Layout.{bits, blank, kind_of, Said, opening, write, read, closing, says}
-use Rattle.words.specs.Reading.{Reading, at_start, ground_at, ground_of, said_at, pass}
+use Rattle.words.specs.declared.reader.Phase.TheVariants.{Between}
+use Rattle.words.specs.Layout.{bits, blank, kind_of, Said, opening, write, read, closing}
+use Rattle.words.specs.Reading.{Reading, at_start, ground_of, said_at, pass}
 use Rattle.words.specs.Loading.{tell_ground, told, Tells, Loads, LoadsFrom}
 use Rattle.words.specs.Saving.{opening_word, closing_word, operation_word, words_of, Saves, LoadsBack}
 

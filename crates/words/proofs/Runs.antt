@@ -1,5 +1,5 @@
 -- What a run of calls settles follows from call to call, and is one recording.
-use Rattle.std.proofs.Common.{◌≡◌, ℕ, ◌⊎◌, List, [], ◌∷◌, ◌++◌, map, Some, None, Ok, Err, Option, Result, sym, refl, ap, ◌∙◌, subst, inl, inr, append_assoc, append-nil, arith}
+use Rattle.std.proofs.Common.{◌≡◌, ℕ, List, [], ◌∷◌, ◌++◌, map, Some, None, Ok, Err, Option, Result, sym, refl, ap, ◌∙◌, subst, inl, inr, append_assoc, append-nil, arith}
 use Rattle.std.proofs.lemmas.List.{map_push}
 use Rattle.recording.specs.declared.operation.Operation.{Operation}
 use Rattle.recording.specs.declared.refusal.Refusal.{Refusal}
@@ -18,9 +18,6 @@ use Rattle.words.specs.Reading.{Reading, at_start, said_at, pass}
 use Rattle.words.specs.Runs.{Event, started, took, Since, event_of, Tellings, Accepts, Runs, Settles}
 
 -- ── Events ──
-
-since_none : Since [] (empty 1)
-since_none = inl (refl, refl)
 
 since_took : (es : List Event) (b : Recorded) (x : Operation) → Since es b → Since (es ++ took x ∷ []) (with b x)
 since_took es b x (inl s) = inl (s.0, ap (λ l. l ++ took x ∷ []) s.1 ∙ sym (map_push took b.operations x))
@@ -115,9 +112,6 @@ settles_more calls call b answer a s answers =
     let t = accepts_call call b answer a s.0 s.2 answers in
     let u = t.2 in
     (u.0, runs_more calls call [] s.0 u.0 t.0 s.1 t.1 u.1, u.2)
-
-pub settles_none : Settles [] (empty 1)
-settles_none = ([], refl, since_none)
 
 -- ── One recording ──
 
