@@ -1,5 +1,6 @@
 //! A recording: what always holds of one.
 ghost use Rattle.std.specs.Prelude.{◌≤◌, length};
+ghost use Rattle.std.proofs.Props.{props};
 ghost use Rattle.recording.specs.Lawful.{InRange, NonZero, Apart};
 ghost use Rattle.recording.specs.Stations.{Kept};
 
@@ -23,5 +24,5 @@ pub struct Recording {
     ghost range: { InRange stations operations.items },
     ghost nonzero: { NonZero operations.items },
     ghost apart: { Apart operations.items },
-    ghost kept: { Kept operations.items table.entries },
+    ghost kept: { Kept operations.items table.entries } by { Prim.hlevel props },
 }

@@ -1,33 +1,21 @@
 //! What a recording keeps of each station.
-ghost use Rattle.std.specs.Prelude.{◌≡◌, ℕ, ◌+◌, ◌<◌, length, set, replicate, Some, None};
+ghost use Rattle.std.specs.Prelude.{◌≡◌, ℕ, ◌+◌, ◌<◌, length, set, Some};
 ghost use Rattle.recording.specs.Stations.{entry_at};
 
 /// A station's count of operations, and the number of its last one.
-#[derive(Clone, Copy)]
+#[derive(Clone, Copy, Default)]
 pub struct Entry {
     pub count: usize,
     pub last: Option<usize>,
 }
 
 /// The entries of the sixteen stations.
-#[derive(Clone, Copy)]
+#[derive(Clone, Copy, Default)]
 pub struct Stations {
     pub(crate) entries: [Entry; 16],
 }
 
 impl Stations {
-    // No operations at any station.
-    pub(crate) fn silent() -> Stations
-        ensures { result.entries ≡ replicate 16 (record { count = 0; last = None }) }
-    {
-        Stations {
-            entries: [Entry {
-                count: 0,
-                last: None,
-            }; 16],
-        }
-    }
-
     // Operation `number` is the station's last one now.
     pub(crate) fn note(&mut self, station: usize, number: usize)
         requires station { station < 16 }

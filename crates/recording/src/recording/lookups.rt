@@ -1,8 +1,7 @@
 //! What can be looked up in a recording.
-ghost use Rattle.std.specs.Prelude.{◌≡◌, ◌<◌, length};
+ghost use Rattle.std.specs.Prelude.{◌≡◌};
 ghost use Rattle.recording.specs.Lookups.{OperationAnswer, EntryAnswer, Giver, SourceAnswer};
-ghost use Rattle.recording.specs.Operations.{at, written};
-ghost use Rattle.recording.specs.Stations.{entry_of, LastOf};
+ghost use Rattle.recording.specs.Operations.{written};
 ghost use Rattle.recording.specs.Telling.{recorded};
 
 use crate::operation::{Kind, Operation};
@@ -29,20 +28,7 @@ impl Recording {
     pub fn entry(&self, station: usize) -> Option<Entry>
         ensures { EntryAnswer (recorded self.now) station result }
     {
-        if station < self.stations() {
-            Some(self.kept(station))
-        } else {
-            None
-        }
-    }
-
-    // The entry of a station that is there.
-    fn kept(&self, station: usize) -> Entry
-        requires { station < (recorded self.now).stations }
-        ensures entry { result ≡ entry_of (recorded self.now).operations station }
-        ensures last { LastOf (recorded self.now).operations station result.last }
-    {
-        self.table.entries[station]
+        (station < self.stations()).then(|| self.table.entries[station])
     }
 
     // Whether the register has been written with the value.

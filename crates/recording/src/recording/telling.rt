@@ -26,7 +26,7 @@ impl Recording {
         Recording {
             stations,
             operations: ArrayVec::new(),
-            table: Stations::silent(),
+            table: Stations::default(),
         }
     }
 

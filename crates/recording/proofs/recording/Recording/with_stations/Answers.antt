@@ -1,7 +1,8 @@
-use Rattle.std.proofs.Common.{sym, subst}
-use Rattle.recording.specs.Stations.{Kept}
-use Rattle.recording.proofs.Appending.{kept_none}
+use Rattle.std.proofs.Common.{None}
+use Rattle.recording.specs.Stations.{last_from}
 use Rattle.recording.proofs.recording.Recording.with_stations.Goals as goal
 
+-- no operations, and no entry changed
 pub invariant_of-result-clause-kept : goal.invariant_of-result-clause-kept
-invariant_of-result-clause-kept c = subst (λ ops. Kept ops c.silent.result.entries) (sym c.new.ensures) (kept_none c.silent.result.entries c.silent.ensures)
+unfolding last_from
+invariant_of-result-clause-kept c = rw c.new.ensures (λ s low. let e = c.default.ensures.at s (record { count = 0; last = None }) low in (e.0, e.1))
