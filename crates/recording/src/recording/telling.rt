@@ -72,7 +72,7 @@ impl Recording {
             return Err(Refusal::NoSuchRegister);
         }
         let in_range = match kind {
-            Kind::Write => 1 <= value && value <= 524_287,
+            Kind::Write => (1..=524_287).contains(&value),
             Kind::Read => value <= 524_287,
         };
         if !in_range {
