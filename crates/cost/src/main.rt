@@ -3,7 +3,7 @@
 
 ghost use Rattle.std.specs.Prelude.{◌+◌, ◌&&◌, ◌==◌, nat_lt};
 
-use relation::{Outcome, Relation, order_or_cycle};
+use relation::{Obstacle, Relation, order_or_cycle};
 use rows::Row;
 use std::cell::Cell;
 use std::io;
@@ -28,13 +28,13 @@ fn print_cost(rt: &HostRuntime, n: usize) -> io::Result<()> {
         asked: Cell::new(0),
     };
     let mut out = [0u16; 256];
-    let outcome = order_or_cycle(&chain, Row::below(n), &mut out);
+    let found = order_or_cycle(&chain, Row::below(n), &mut out);
     let asked = chain.asked.get();
     let Chain { asked: _ } = chain;
-    match outcome {
-        Outcome::Order(count) => println!(rt; "{count} members in order: {asked} rows asked"),
-        Outcome::Cycle(count) => println!(rt; "a cycle of {count}: {asked} rows asked"),
-        Outcome::NoRoom => println!(rt; "no room"),
+    match found {
+        Ok(count) => println!(rt; "{count} members in order: {asked} rows asked"),
+        Err(Obstacle::Cycle(count)) => println!(rt; "a cycle of {count}: {asked} rows asked"),
+        Err(Obstacle::NoRoom) => println!(rt; "no room"),
     }
 }
 

@@ -74,14 +74,6 @@ pub steps_precede : {R : ℕ → ℕ → Type 0} (l : List ℕ) {a b : ℕ} → 
 steps_precede l o f (one {a = a} {b = b} r) = f a b r
 steps_precede l o f (more {a = a} {b = b} {c = c} r s) = precedes_trans l a b c o (f a b r) (steps_precede l o f s)
 
--- two members stand one before the other
-pub precedes_either : (l : List ℕ) (a b : ℕ) → Holds l a → Holds l b → a ≢ b → Precedes l a b ⊎ Precedes l b a
-precedes_either [] a b h k n = absurd h
-precedes_either (x ∷ l) a b (inl e) (inl f) n = absurd (n (omega arith))
-precedes_either (x ∷ l) a b (inl e) (inr k) n = inl (inl (e, k))
-precedes_either (x ∷ l) a b (inr h) (inl f) n = inr (inl (f, h))
-precedes_either (x ∷ l) a b (inr h) (inr k) n = ⊎_elim (λ p. inl (inr p)) (λ p. inr (inr p)) (precedes_either l a b h k n)
-
 -- ── An order that extends a relation ──
 
 -- l with k put in between what R has before k and what it has after k

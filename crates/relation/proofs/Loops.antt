@@ -7,42 +7,15 @@ use Rattle.arrayvec.specs.ArrayVec.{ArrayVec, with_items}
 use Rattle.arrayvec.proofs.ArrayVecLemmas.{items-with_items}
 use Rattle.rows.specs.Counts.{size}
 use Rattle.rows.proofs.Sizes.{size_le, size_with, size_without}
-use Rattle.relation.specs.Orders.{Image, Arranged, Ordered, Ring}
+use Rattle.relation.specs.Orders.{Arranged, Ordered, Ring}
+
+-- ---- one more row of an image
 
 -- what the numbers of `from` that have left `rest` are related to
 pub record Imaging (R : ℕ → ℕ → Bool) (from rest reached : ℕ → Bool) : Type 0 where
   pub some : (k : ℕ) → rest k ≡ true → from k ≡ true
   pub sound : (k : ℕ) → reached k ≡ true → (a : ℕ) × (from a ≡ true) × (R a k ≡ true)
   pub whole : (a k : ℕ) → from a ≡ true → rest a ≡ false → R a k ≡ true → reached k ≡ true
-
-module _ (R : ℕ → ℕ → Bool) (from : ℕ → Bool) where
-  pub imaging_none : (reached : ℕ → Bool) → ((k : ℕ) → reached k ≡ false) → Imaging R from from reached
-  imaging_none reached none = record {
-    some = λ k h. h;
-    sound = λ k h. absurd (both_ways (reached k) (none k) h);
-    whole = λ a k p q r. absurd (both_ways (from a) q p);
-  }
-
-  pub imaging_more : (rest fewer reached row more : ℕ → Bool) (a : ℕ) → Imaging R from rest reached → rest a ≡ true → ((k : ℕ) → fewer k ≡ (rest k && not (eqb k a)))
-      → ((k : ℕ) → row k ≡ R a k) → ((k : ℕ) → more k ≡ (reached k || row k)) → Imaging R from fewer more
-  imaging_more rest fewer reached row more a v here less is union = record {
-    some = λ k h. v.some k (and_parts (rest k) (not (eqb k a)) (sym (less k) ∙ h)).0;
-    sound = λ k h. elim (or_cases (reached k) (row k) (sym (union k) ∙ h)) [
-      | inl p ↦ v.sound k p
-      | inr p ↦ (a, v.some a here, sym (is k) ∙ p)
-    ];
-    whole = λ b k p q r. elim (cases_eq b a) [
-      | inl e ↦ union k ∙ or_right (reached k) (row k) (is k ∙ ap (λ x. R x k) (sym e) ∙ r)
-      | inr n ↦ union k ∙ or_left (reached k) (row k) (v.whole b k p (sym (and_true (rest b)) ∙ ap (λ x. rest b && not x) (sym (ne_eqb b a n)) ∙ sym (less b) ∙ q) r)
-    ];
-  }
-    where
-      and_true : (x : Bool) → (x && true) ≡ x
-      and_true true = refl
-      and_true false = refl
-
-  pub imaging_all : (rest reached : ℕ → Bool) → Imaging R from rest reached → ((k : ℕ) → rest k ≡ false) → Image R from reached
-  imaging_all rest reached v none = record { sound = v.sound; whole = λ a k p r. v.whole a k p (none a) r }
 
 -- ---- one more number in order
 
@@ -136,17 +109,17 @@ module _ (R : ℕ → ℕ → Bool) (M : ℕ → Bool) where
     longer : length zs ≡ length xs + 1
     longer = length-append xs (b ∷ [])
 
-    kept : (i : ℕ) → i < (length xs) → get_or zs i 0 ≡ get_or xs i 0
+    kept : (i : ℕ) → i < length xs → get_or zs i 0 ≡ get_or xs i 0
     kept i h = get_or_append_left xs (b ∷ []) 0 i h
 
     put : get_or zs (length xs) 0 ≡ b
     put = get_or-append_seam xs b [] 0
 
-    all : (P : ℕ → ℕ → Type 0) → ((i : ℕ) → i < (length xs) → P i (get_or xs i 0)) → P (length xs) b → (i : ℕ) → i < length zs → P i (get_or zs i 0)
+    all : (P : ℕ → ℕ → Type 0) → ((i : ℕ) → i < length xs → P i (get_or xs i 0)) → P (length xs) b → (i : ℕ) → i < length zs → P i (get_or zs i 0)
     all P below last i h =
         elim (cases_eq i (length xs)) [
           | inl z ↦ subst (λ (j : ℕ). P j (get_or zs j 0)) (sym z) (subst (λ (x : ℕ). P (length xs) x) (sym put) last)
-          | inr z ↦ let l : i < (length xs) = omega (arith, longer) in subst (λ (x : ℕ). P i x) (sym (kept i l)) (below i l)
+          | inr z ↦ let l : i < length xs = omega (arith, longer) in subst (λ (x : ℕ). P i x) (sym (kept i l)) (below i l)
         ]
 
     pub walked_more : Walked R M more zs c
@@ -160,15 +133,15 @@ module _ (R : ℕ → ℕ → Bool) (M : ℕ → Bool) where
       once = λ i j p. all (λ i x. (j : ℕ) → j < length zs → x ≡ get_or zs j 0 → i ≡ j)
           (λ i p. all (λ j y. get_or xs i 0 ≡ y → i ≡ j) (λ j q. v.once i j p q)
           (λ (z : get_or xs i 0 ≡ b). absurd (both_ways (seen b) fresh (ap seen (sym z) ∙ v.marked i p))))
-          (all (λ j y. b ≡ y → (length xs) ≡ j) (λ j q (z : b ≡ get_or xs j 0). absurd (both_ways (seen b) fresh (ap seen z ∙ v.marked j q))) (λ _. refl)) i p j;
+          (all (λ j y. b ≡ y → length xs ≡ j) (λ j q (z : b ≡ get_or xs j 0). absurd (both_ways (seen b) fresh (ap seen z ∙ v.marked j q))) (λ _. refl)) i p j;
       steps = λ i p.
-          let q : i < (length xs) = omega (arith, longer) in
+          let q : i < length xs = omega (arith, longer) in
           elim (cases_eq (i + 1) (length xs)) [
             | inl z ↦
                 let x : get_or zs (i + 1) 0 ≡ b = ap (λ (j : ℕ). get_or zs j 0) z ∙ put in
-                let y : i ≡ (length xs) - 1 = omega arith in
+                let y : i ≡ length xs - 1 = omega arith in
                 ap₂ R x (kept i q ∙ ap (λ (j : ℕ). get_or xs j 0) y) ∙ v.next (omega arith)
-            | inr z ↦ let r : i + 1 < (length xs) = omega arith in ap₂ R (kept (i + 1) r) (kept i q) ∙ v.steps i r
+            | inr z ↦ let r : i + 1 < length xs = omega arith in ap₂ R (kept (i + 1) r) (kept i q) ∙ v.steps i r
           ];
       here = here;
       next = λ h. ap (R c) (ap (λ (j : ℕ). get_or zs j 0) (omega (arith, longer)) ∙ put) ∙ step;

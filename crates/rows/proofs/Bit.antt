@@ -1,5 +1,5 @@
 -- What the operations on words do to each bit.
-use Rattle.std.proofs.Common.{◌≡◌, ℕ, zero, suc, ◌-◌, ◌/◌, ◌%◌, ◌^◌, ◌<◌, true, false, not, ◌&&◌, ◌||◌, eqb, ltb, sym, refl, ap, ◌∙◌, pow-suc, div-one, arith, lit<}
+use Rattle.std.proofs.Common.{◌≡◌, ℕ, zero, suc, ◌-◌, ◌/◌, ◌%◌, ◌^◌, ◌<◌, Bool, true, false, not, ◌&&◌, ◌||◌, eqb, ltb, sym, refl, ap, ◌∙◌, pow-suc, div-one, arith, lit<}
 use lib.Dec.{eqb-suc-suc, eqb-suc-zero}
 use lib.Bits.{bit_and, bit_or, and_mask}
 use lib.Count.{count_trailing_zeros, under}
@@ -112,6 +112,38 @@ unfolding count_trailing_zeros
 lowest_set zero w p q = absurd (omega arith)
 lowest_set (suc k) w p q =
     let e = pow-suc 2 k in lowest_step k w (w % 2) q refl p (λ h. lowest_set k (w / 2) h (omega arith))
+
+clear_step : (k w d : ℕ) → w < 2 ^ suc k → w % 2 ≡ d → 0 < w
+    → (0 < w / 2 → (i : ℕ) → bit (bit_and (w / 2) (w / 2 - 1)) i ≡ (bit (w / 2) i && not (eqb i (count_trailing_zeros k (w / 2)))))
+    → (i : ℕ) → (bit w i && bit (w - 1) i) ≡ (bit w i && not (eqb i (under d (count_trailing_zeros k (w / 2)))))
+clear_step k w zero q e p rest zero =
+    let low : bit w 0 ≡ false = bit_first w ∙ ap (λ (x : ℕ). eqb x 1) e in
+    ap (λ x. x && bit (w - 1) 0) low ∙ ap (λ x. x && not (eqb 0 (suc (count_trailing_zeros k (w / 2))))) (sym low)
+clear_step k w zero q e p rest (suc i) =
+    let half : (w - 1) / 2 ≡ w / 2 - 1 = omega arith in
+    let t : ℕ = count_trailing_zeros k (w / 2) in
+    ap (λ x. bit w (suc i) && x) (bit_next (w - 1) i ∙ ap (λ (x : ℕ). bit x i) half) ∙ ap (λ x. x && bit (w / 2 - 1) i) (bit_next w i)
+    ∙ sym (bit-and (w / 2) (w / 2 - 1) i) ∙ rest (omega arith) i
+    ∙ ap (λ x. x && not (eqb i t)) (sym (bit_next w i)) ∙ ap (λ x. bit w (suc i) && not x) (sym (eqb-suc-suc i t))
+clear_step k w (suc zero) q e p rest zero =
+    let less : bit (w - 1) 0 ≡ false = bit_first (w - 1) ∙ grind (arith, nat_tests) in
+    ap (λ x. bit w 0 && x) less
+clear_step k w (suc zero) q e p rest (suc i) =
+    let half : (w - 1) / 2 ≡ w / 2 = omega arith in
+    ap (λ x. bit w (suc i) && x) (bit_next (w - 1) i ∙ ap (λ (x : ℕ). bit x i) half ∙ sym (bit_next w i)) ∙ same_twice (bit w (suc i))
+    ∙ ap (λ x. bit w (suc i) && not x) (sym (eqb-suc-zero i))
+  where
+    same_twice : (x : Bool) → (x && x) ≡ (x && not false)
+    same_twice true = refl
+    same_twice false = refl
+clear_step k w (suc (suc d)) q e p rest i = absurd (omega arith)
+
+-- a word without its lowest bit
+pub lowest_cleared : (k w : ℕ) → 0 < w → w < 2 ^ k → (i : ℕ) → bit (bit_and w (w - 1)) i ≡ (bit w i && not (eqb i (count_trailing_zeros k w)))
+unfolding count_trailing_zeros
+lowest_cleared zero w p q i = absurd (omega arith)
+lowest_cleared (suc k) w p q i =
+    let e = pow-suc 2 k in bit-and w (w - 1) i ∙ clear_step k w (w % 2) q refl p (λ h. lowest_cleared k (w / 2) h (omega arith)) i
 
 -- ---- the test that the code makes
 

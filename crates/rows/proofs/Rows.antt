@@ -1,17 +1,14 @@
 -- What the operations on rows and tables do to each member.
-use Rattle.std.proofs.Common.{◌≡◌, ℕ, None, zero, suc, ◌+◌, ◌-◌, ◌*◌, ◌/◌, ◌%◌, ◌^◌, ◌<◌, ◌≤◌, min, Bool, true, false, not, ◌&&◌, ◌||◌, eqb, ltb, List, [], ◌∷◌, length, get_or, set, replicate, Some, sym, refl, ap, ◌∙◌, inl, inr, arith, lit<}
+use Rattle.std.proofs.Common.{◌≡◌, ℕ, zero, suc, ◌+◌, ◌-◌, ◌*◌, ◌/◌, ◌%◌, ◌^◌, ◌<◌, ◌≤◌, min, Bool, true, false, not, ◌&&◌, ◌||◌, eqb, ltb, List, [], ◌∷◌, length, get_or, set, replicate, Some, None, subst, sym, refl, ap, ◌∙◌, inl, inr, arith, lit<}
 use lib.Bits.{bit_and, bit_or}
 use lib.Count.{count_trailing_zeros}
 use Rattle.std.proofs.lemmas.Nat.{one_shl, pow_below}
 use Rattle.std.proofs.lemmas.List.{get_or-set_same, get_or-set_other, get_or_past, length-set, length-replicate, get_or-replicate, ext_get_or}
 use Rattle.std.proofs.lemmas.Bool.Decides.{nat_tests}
 use Rattle.std.proofs.lemmas.Bool.{cases_eq, cases_lt, both_ways, ne_eqb, le-ltb}
-use Rattle.std.specs.List.{position, position_or_len}
-use Rattle.std.proofs.lemmas.List.Quantifiers.{position-Some}
-use Rattle.std.proofs.lemmas.List.Sums.{fails_before_first}
-use Rattle.std.proofs.lemmas.Grind.{common_steps}
-use Rattle.rows.specs.Members.{bit, has, row_of, First}
-use Rattle.rows.proofs.Bit.{bit_none, bit-or, bit-and, bit_not, bit_one, same_bits, lowest_set}
+use Rattle.rows.specs.Members.{bit, has, row_of}
+use Rattle.rows.specs.Steps.{Next}
+use Rattle.rows.proofs.Bit.{bit_none, bit-or, bit-and, bit_not, bit_one, same_bits, lowest_set, lowest_cleared}
 
 -- ---- one word of a row
 
@@ -135,39 +132,110 @@ same_rows xs ys l f g e =
 
 -- ---- the smallest member
 
-abbrev pub nonzero : ℕ → Bool
-nonzero w = not (eqb w 0)
-
-zero_word : (w : ℕ) → nonzero w ≡ false → w ≡ 0
-zero_word w e = grind (arith, nat_tests)
-
-some_bit : (w : ℕ) → nonzero w ≡ true → 0 < w
-some_bit w e = grind (arith, nat_tests)
-
-pub first_none : (ws : List ℕ) → length ws ≡ 4 → position nonzero ws ≡ None → First (has ws) None
-first_none ws l e k =
-    let past : 4 ≤ position_or_len nonzero ws = grind (arith, common_steps) in
-    elim (cases_lt k 256) [
-      | inl p ↦ none_in ws 4 (λ q h. zero_word (get_or ws q 0) (fails_before_first nonzero ws q 0 (omega arith))) k (omega arith)
-      | inr p ↦ has_past ws 4 k l (omega arith)
+pub none_more : (ws : List ℕ) (q : ℕ) → ((k : ℕ) → k < 64 * q → has ws k ≡ false) → get_or ws q 0 ≡ 0 → (k : ℕ) → k < 64 * (q + 1) → has ws k ≡ false
+none_more ws q low e k h =
+    elim (cases_lt k (64 * q)) [
+      | inl p ↦ low k p
+      | inr p ↦ has_word ws q k (omega arith) ∙ ap (λ (x : ℕ). bit x (k % 64)) e ∙ bit_none (k % 64)
     ]
 
-pub first_some : (ws : List ℕ) (q : ℕ) → length ws ≡ 4 → ((q : ℕ) → get_or ws q 0 < 2 ^ 64) → position nonzero ws ≡ Some q
-    → First (has ws) (Some (64 * q + count_trailing_zeros 64 (get_or ws q 0)))
-first_some ws q l fit e =
-    let p = position-Some nonzero ws q 0 e in
-    let t = lowest_set 64 (get_or ws q 0) (some_bit (get_or ws q 0) p.1) (fit q) in
-    let low = p.0 in
-    let b = t.0 in (
-      omega arith,
-      has_at ws q (count_trailing_zeros 64 (get_or ws q 0)) b ∙ t.1,
-      λ k r. elim (cases_lt k (64 * q)) [
-        | inl h ↦ none_in ws q (λ i u. zero_word (get_or ws i 0) (p.2 i u)) k h
-        | inr h ↦
-            let d : k / 64 ≡ q = omega arith in
-            has_word ws q k d ∙ t.2 (k % 64) (omega arith)
-      ],
-    )
+module _ (start ws : List ℕ) (q : ℕ) (e : ws ≡ start) (long : length ws ≡ 4) (low : (k : ℕ) → k < 64 * q → has ws k ≡ false) where
+  pub none_taken : 4 ≤ q → Next (has start) None (has ws)
+  none_taken r = subst (λ l. Next (has l) None (has ws)) e (record {
+    smallest = λ k. elim (cases_lt k 256) [ inl p ↦ low k (omega arith) | inr p ↦ has_past ws 4 k long (omega arith) ];
+    rest = λ k. refl;
+  })
+
+  module _ (h : q < 4) (fit : get_or ws q 0 < 2 ^ 64) (ne : get_or ws q 0 ≡ 0 → ⊥) where
+    abbrev lowest : ℕ
+    lowest = count_trailing_zeros 64 (get_or ws q 0)
+
+    -- the words without the lowest bit of word q
+    abbrev left : List ℕ
+    left = set ws q (bit_and (get_or ws q 0) (get_or ws q 0 - 1))
+
+    without_lowest : (k : ℕ) → has left k ≡ (has ws k && not (eqb k (64 * q + lowest)))
+    unfolding has
+    without_lowest k =
+        let t = (lowest_set 64 (get_or ws q 0) (omega arith) fit).0 in
+        elim (cases_eq (k / 64) q) [
+          | inl d ↦
+              let s = get_or-set_same ws q (bit_and (get_or ws q 0) (get_or ws q 0 - 1)) 0 (omega arith) in
+              let c = lowest_cleared 64 (get_or ws q 0) (omega arith) fit (k % 64) in
+              let u : eqb (k % 64) lowest ≡ eqb k (64 * q + lowest) = grind (arith, nat_tests) in
+              cc
+          | inr ne ↦
+              let s = get_or-set_other ws q (k / 64) (bit_and (get_or ws q 0) (get_or ws q 0 - 1)) 0 ne in
+              let u : eqb k (64 * q + lowest) ≡ false = grind (arith, nat_tests) in
+              let o = and_true (bit (get_or ws (k / 64) 0) (k % 64)) in
+              cc
+        ]
+
+    pub first_taken : Next (has start) (Some (64 * q + lowest)) (has left)
+    first_taken =
+        let t = lowest_set 64 (get_or ws q 0) (omega arith) fit in
+        let l = t.0 in
+        subst (λ l. Next (has l) (Some (64 * q + lowest)) (has left)) e (record {
+          smallest = (
+            omega arith,
+            has_at ws q lowest l ∙ t.1,
+            λ k r. elim (cases_lt k (64 * q)) [
+              | inl p ↦ low k p
+              | inr p ↦ let d : k / 64 ≡ q = omega arith in has_word ws q k d ∙ t.2 (k % 64) (omega arith)
+            ],
+          );
+          rest = without_lowest;
+        })
+
+-- ---- the rows of a table after a write
+
+four_words : (ws : List ℕ) → length ws ≡ 4 → get_or ws 0 0 ∷ get_or ws 1 0 ∷ get_or ws 2 0 ∷ get_or ws 3 0 ∷ [] ≡ ws
+four_words [] l = absurd (omega arith)
+four_words (a ∷ []) l = absurd (omega arith)
+four_words (a ∷ b ∷ []) l = absurd (omega arith)
+four_words (a ∷ b ∷ c ∷ []) l = absurd (omega arith)
+four_words (a ∷ b ∷ c ∷ d ∷ []) l = refl
+four_words (a ∷ b ∷ c ∷ d ∷ e ∷ ws) l = absurd (omega arith)
+
+module _ (t : List ℕ) (p a b c d : ℕ) where
+  abbrev pub put_four : List ℕ
+  put_four = set (set (set (set t p a) (p + 1) b) (p + 2) c) (p + 3) d
+
+  put_others : (x : ℕ) → (x ≡ p → ⊥) → (x ≡ p + 1 → ⊥) → (x ≡ p + 2 → ⊥) → (x ≡ p + 3 → ⊥) → get_or put_four x 0 ≡ get_or t x 0
+  put_others x h i j k = simp get_or-set_other
+
+  put_at : p + 3 < length t → (get_or put_four p 0 ≡ a) × (get_or put_four (p + 1) 0 ≡ b) × (get_or put_four (p + 2) 0 ≡ c) × (get_or put_four (p + 3) 0 ≡ d)
+  put_at h = (
+    get_or-set_other _ (p + 3) p d 0 (omega arith) ∙ get_or-set_other _ (p + 2) p c 0 (omega arith) ∙ get_or-set_other _ (p + 1) p b 0 (omega arith)
+        ∙ get_or-set_same t p a 0 (omega arith),
+    get_or-set_other _ (p + 3) (p + 1) d 0 (omega arith) ∙ get_or-set_other _ (p + 2) (p + 1) c 0 (omega arith)
+        ∙ get_or-set_same _ (p + 1) b 0 (omega (arith, length-set t p a)),
+    get_or-set_other _ (p + 3) (p + 2) d 0 (omega arith) ∙ get_or-set_same _ (p + 2) c 0 (omega (arith, length-set t p a, length-set (set t p a) (p + 1) b)),
+    get_or-set_same _ (p + 3) d 0 (omega (arith, length-set t p a, length-set (set t p a) (p + 1) b, length-set (set (set t p a) (p + 1) b) (p + 2) c)),
+  )
+
+module _ (t : List ℕ) (a : ℕ) (ws : List ℕ) (l : length ws ≡ 4) where
+  abbrev pub with_row : List ℕ
+  with_row = put_four t (4 * a) (get_or ws 0 0) (get_or ws 1 0) (get_or ws 2 0) (get_or ws 3 0)
+
+  pub row_here : 4 * a + 3 < length t → row_of with_row a ≡ ws
+  row_here h =
+      let q = put_at t (4 * a) (get_or ws 0 0) (get_or ws 1 0) (get_or ws 2 0) (get_or ws 3 0) h in
+      let i = q.0 in
+      let j = q.1 in
+      let k = q.2 in
+      let m = q.3 in
+      let e = four_words ws l in
+      cc
+
+  pub row_other : (c : ℕ) → (c ≡ a → ⊥) → row_of with_row c ≡ row_of t c
+  row_other c ne =
+      let o = put_others t (4 * a) (get_or ws 0 0) (get_or ws 1 0) (get_or ws 2 0) (get_or ws 3 0) in
+      let i = o (4 * c) (λ e. omega arith) (λ e. omega arith) (λ e. omega arith) (λ e. omega arith) in
+      let j = o (4 * c + 1) (λ e. omega arith) (λ e. omega arith) (λ e. omega arith) (λ e. omega arith) in
+      let k = o (4 * c + 2) (λ e. omega arith) (λ e. omega arith) (λ e. omega arith) (λ e. omega arith) in
+      let m = o (4 * c + 3) (λ e. omega arith) (λ e. omega arith) (λ e. omega arith) (λ e. omega arith) in
+      cc
 
 -- ---- numbers above 255
 

@@ -1,11 +1,12 @@
 -- How many numbers below n a test passes.
-use Rattle.std.proofs.Common.{◌≡◌, ℕ, zero, suc, ◌+◌, ◌*◌, ◌/◌, ◌%◌, ◌^◌, ◌<◌, ◌≤◌, Bool, true, false, not, ◌&&◌, ◌||◌, eqb, List, [], ◌∷◌, length, get_or, sym, refl, ap, ◌∙◌, ap₂, inl, inr, add-zero, add-suc, pow-suc, one-add, arith}
+use Rattle.std.proofs.Common.{◌≡◌, ℕ, zero, suc, ◌+◌, ◌*◌, ◌/◌, ◌%◌, ◌^◌, ◌<◌, ◌≤◌, Bool, true, false, not, ◌&&◌, ◌||◌, eqb, Some, None, Option, OnSome, rules, List, [], ◌∷◌, length, get_or, sym, refl, ap, ◌∙◌, ap₂, inl, inr, add-zero, add-suc, pow-suc, one-add, arith}
 use lib.Count.{ones, ones_step}
 use Rattle.std.specs.List.{sum_by}
 use Rattle.rows.specs.Members.{bit, has}
 use Rattle.rows.proofs.Bit.{bit_first, bit_next}
 use Rattle.rows.proofs.Rows.{has_at}
 use Rattle.rows.specs.Counts.{one_if, size}
+use Rattle.rows.specs.Steps.{Next}
 use Rattle.std.proofs.lemmas.Bool.{cases_eq, both_ways, eq-eqb, ne_eqb}
 
 one_if_le : (b : Bool) → one_if b ≤ 1
@@ -45,6 +46,11 @@ size_without P Q b (suc n) h p e =
     and_true : (x : Bool) → (x && true) ≡ x
     and_true true = refl
     and_true false = refl
+
+-- a set without its smallest number
+pub next_smaller : (P Q : ℕ → Bool) (first : Option ℕ) → Next P first Q → OnSome first (size Q 256 < size P 256)
+next_smaller P Q None n = search rules
+next_smaller P Q (Some b) n = let d = size_without P Q b 256 n.smallest.0 n.smallest.1 n.rest in search rules
 
 -- one number more
 pub size_with : (P Q : ℕ → Bool) (b n : ℕ) → b < n → P b ≡ false → ((k : ℕ) → Q k ≡ (P k || eqb k b)) → size P n + 1 ≡ size Q n
@@ -102,13 +108,13 @@ size_none P (suc n) e = omega (arith, size_none P n e, ap one_if (e n))
 
 -- ---- the numbers in two parts
 
-pub size_split : (P : ℕ → Bool) (m d : ℕ) → size P (m + d) ≡ size P m + size (λ i. P (m + i)) d
+size_split : (P : ℕ → Bool) (m d : ℕ) → size P (m + d) ≡ size P m + size (λ i. P (m + i)) d
 unfolding size
 size_split P m zero = ap (size P) (add-zero m) ∙ omega arith
 size_split P m (suc d) = ap (size P) (add-suc m d) ∙ omega (arith, size_split P m d)
 
 -- as many as the digits of a word that are 1
-pub size_bits : (d w : ℕ) → w < 2 ^ d → size (bit w) d ≡ ones w
+size_bits : (d w : ℕ) → w < 2 ^ d → size (bit w) d ≡ ones w
 unfolding size ones
 size_bits zero w h = ap ones (let z : 0 ≡ w = omega arith in z)
 size_bits (suc d) w h =

@@ -20,8 +20,6 @@ impl Iterator for Members {
     ghost remaining = { λ s. at_most (size (member s.left) 256) };
 
     fn next(&mut self) -> Option<usize> {
-        let smallest = self.left.first()?;
-        self.left = self.left.without(smallest);
-        Some(smallest)
+        self.left.take_first()
     }
 }

@@ -2,6 +2,7 @@
 ghost use Rattle.std.specs.Prelude.{◌≡◌, ℕ, ◌<◌, ◌≤◌, min, true, false, not, ◌&&◌, ◌||◌, Decides, ◌==◌, count_ones, nat_lt, slice_index};
 ghost use Rattle.rows.specs.Counts.{size};
 ghost use Rattle.rows.specs.Members.{bit, member, First, Found};
+ghost use Rattle.rows.specs.Steps.{Next};
 
 use crate::members::Members;
 
@@ -119,11 +120,24 @@ impl Row {
     }
 
     /// The smallest member.
-    pub fn first(self) -> Option<usize>
+    pub fn first(mut self) -> Option<usize>
         ensures { First (member self) result }
     {
-        let i = self.words.iter().position(|word| *word != 0)?;
-        Some(64 * i + self.words[i].trailing_zeros() as usize)
+        self.take_first()
+    }
+
+    // Takes out the smallest member. It goes by index, as a look-up by `position` takes twice as long.
+    pub(crate) fn take_first(&mut self) -> Option<usize>
+        ensures { Next (member self.old) result (member self.new) }
+    {
+        for i in 0..4 {
+            let word = self.words[i];
+            if word != 0 {
+                self.words[i] = word & (word - 1);
+                return Some(64 * i + word.trailing_zeros() as usize);
+            }
+        }
+        None
     }
 
     /// The members, the smallest first.

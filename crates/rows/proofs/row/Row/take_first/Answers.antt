@@ -1,0 +1,18 @@
+use Rattle.std.proofs.Common.{get_or, ap, arith, w64, Fits, refl, rules}
+use Rattle.rows.proofs.Rows.{none_more, none_taken, first_taken}
+use Rattle.rows.proofs.row.Row.take_first.Goals as goal
+
+pub loop-i-init : goal.loop-i-init
+loop-i-init c = (refl, λ k h. absurd (omega arith))
+
+pub returns-then-word-ne0 : goal.returns-then-word-ne0
+returns-then-word-ne0 c =
+    let fit : Fits w64 (get_or c.loop-i.self.words c.loop-i.i 0) = search rules in
+    first_taken c.args.self.now.words c.loop-i.self.words c.loop-i.i (ap (λ r. r.words) c.loop-i.invariant.0) (search rules)
+    c.loop-i.invariant.1 c.loop-i-test.true fit.fits c.if-word-ne0.true
+
+pub loop-i-preserved : goal.loop-i-preserved
+loop-i-preserved c = (c.loop-i.invariant.0, none_more c.loop-i.self.words c.loop-i.i c.loop-i.invariant.1 c.if-word-ne0.false)
+
+pub returns : goal.returns
+returns c = none_taken c.args.self.now.words c.loop-i.self.words c.loop-i.i (ap (λ r. r.words) c.loop-i.invariant.0) (search rules) c.loop-i.invariant.1 c.loop-i-test.false
