@@ -1,10 +1,10 @@
 -- What every order has to keep, as a union of two relations between writes.
-use Rattle.std.proofs.Common.{◌≡◌, ℕ, ◌≤◌, Bool, true, ◌&&◌, ◌||◌, ◌⊎◌, List, length, take, Decides, refl, inl, inr, arith}
+use Rattle.std.proofs.Common.{◌≡◌, ℕ, ◌≤◌, Bool, true, ◌&&◌, ◌||◌, ◌⊎◌, List, length, take, Ok, Err, Result, IsOk, Decides, refl, inl, inr, arith}
 use Rattle.std.proofs.lemmas.Bool.{or_cases, or_left, or_right}
 use Rattle.recording.specs.declared.operation.Operation.{Operation}
 use Rattle.recording.specs.Operations.{IsWrite}
-use Rattle.relation.specs.declared.order.Outcome.{Outcome}
-use Rattle.relation.specs.declared.order.Outcome.TheVariants.{Order, Cycle, NoRoom}
+use Rattle.relation.specs.declared.order.Obstacle.{Obstacle}
+use Rattle.relation.specs.declared.order.Obstacle.TheVariants.{Cycle, NoRoom}
 use Rattle.relation.specs.Found.{Found, Exactly}
 use Rattle.relation.specs.Orders.{Ordered, Ring}
 use Rattle.relation.specs.Steps.{one, Precedes}
@@ -59,7 +59,7 @@ module _ (ops : List Operation) (V : Rel) (M : ℕ → Bool) (d : (k : ℕ) → 
 
   module _ (before after : List ℕ) (long : length after ≡ 256) where
     module _ (n : ℕ) where
-      pub arranged : Found (λ a b. (M a && (M b && V a b)) || related t a b) M before after (Order n) → Arranged ops V n before after
+      pub arranged : Found (λ a b. (M a && (M b && V a b)) || related t a b) M before after (Ok n) → Arranged ops V n before after
       arranged f =
           let few : n ≤ 256 = f.1 in
           record {
@@ -69,7 +69,7 @@ module _ (ops : List Operation) (V : Rel) (M : ℕ → Bool) (d : (k : ℕ) → 
             tail = f.3;
           }
 
-      pub cyclic : Found (λ a b. (M a && (M b && V a b)) || related t a b) M before after (Cycle n) → Evident ops V BadArb 0 n before after
+      pub cyclic : Found (λ a b. (M a && (M b && V a b)) || related t a b) M before after (Err (Cycle n)) → Evident ops V BadArb 0 n before after
       cyclic f =
           let few : n ≤ 256 = f.1 in
           record { shows = (refl, cycle_kept ops V M d (related t) (Conflict ops V) conflict_decides after n (omega arith) f.2); few = few; tail = f.3 }
@@ -79,12 +79,12 @@ module _ (ops : List Operation) (valid : Valid ops) (V : Rel) (clean : OwnClean 
     (k : (a b : ℕ) → Decides (C a b) (Rival ops V r b a)) where
   module _ (before after : List ℕ) (room : length before ≡ 256) where
     -- there is always one
-    pub never_stuck : (o : Outcome) → Found (λ a b. (M a && (M b && V a b)) || C a b) M before after o → Exactly (λ a b. (M a && (M b && V a b)) || C a b) M o → ((n : ℕ) → ¬ (o ≡ Order n)) → ⊥
-    never_stuck (Order n) f e z = z n refl
-    never_stuck (Cycle n) f e z = e (λ a s. forced_acyclic ops valid V clean r a (steps_wider (λ x y h. one (kept_both ops V M d C (λ a b. Rival ops V r b a) k x y h.2)) s))
-    never_stuck NoRoom f e z = let h = f.0 in omega arith
+    pub never_stuck : (o : Result ℕ Obstacle) → Found (λ a b. (M a && (M b && V a b)) || C a b) M before after o → Exactly (λ a b. (M a && (M b && V a b)) || C a b) M o → IsOk o
+    never_stuck (Ok n) f e = refl
+    never_stuck (Err (Cycle n)) f e = absurd (e (λ a s. forced_acyclic ops valid V clean r a (steps_wider (λ x y h. one (kept_both ops V M d C (λ a b. Rival ops V r b a) k x y h.2)) s)))
+    never_stuck (Err NoRoom) f e = let h = f.0 in absurd (omega arith)
 
-    pub ordered_for : length after ≡ 256 → (n : ℕ) → Found (λ a b. (M a && (M b && V a b)) || C a b) M before after (Order n) → OrderedFor ops V r n before after
+    pub ordered_for : length after ≡ 256 → (n : ℕ) → Found (λ a b. (M a && (M b && V a b)) || C a b) M before after (Ok n) → OrderedFor ops V r n before after
     ordered_for long n f =
         let few : n ≤ 256 = f.1 in
         record {

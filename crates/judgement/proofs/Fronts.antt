@@ -1,9 +1,6 @@
 -- Orders and cycles at the front of a buffer, as lists.
-use Rattle.std.proofs.Common.{◌≡◌, ℕ, zero, suc, ◌+◌, ◌-◌, ◌<◌, ◌≤◌, Bool, true, List, length, get_or, take, sym, refl, ap, ◌∙◌, subst, subst₂, arith}
+use Rattle.std.proofs.Common.{◌≡◌, ℕ, zero, suc, ◌+◌, ◌-◌, ◌<◌, ◌≤◌, Bool, true, List, length, get_or, take, sym, ap, ◌∙◌, subst, subst₂, arith}
 use Rattle.std.proofs.lemmas.List.{get_or-take, length-take-le}
-use Rattle.relation.specs.declared.order.Outcome.{Outcome}
-use Rattle.relation.specs.declared.order.Outcome.TheVariants.{Order, Cycle, NoRoom}
-use Rattle.relation.specs.Found.{Found, Exactly}
 use Rattle.relation.specs.Orders.{Ordered, Ring}
 use Rattle.relation.specs.Steps.{Steps, one, Acyclic, Among, Once, Precedes, Lists}
 use Rattle.relation.proofs.Extending.{steps_join, steps_wider}
@@ -73,12 +70,6 @@ module _ (xs : List ℕ) (n : ℕ) (fits : n ≤ length xs) where
         let up = o.keeps p.0 q.0 p.1 q.1 (subst₂ (λ x y. R x y ≡ true) (sym p.2) (sym q.2) r) in
         (places_theorem.precedes (take n xs) a b).1
         (p.0, q.0, up, (let z = q.1 in omega arith), sym (front p.0 p.1) ∙ p.2, sym (front q.0 q.1) ∙ q.2)
-
--- where there is room, and no cycle is found, there is none
-pub no_cycle : (R : ℕ → ℕ → Bool) (M : ℕ → Bool) (before after : List ℕ) (r : Outcome) → Found R M before after r → Exactly R M r → 256 ≤ length before → ((n : ℕ) → ¬ (r ≡ Cycle n)) → Acyclic (Among M R)
-no_cycle R M before after (Order n) f e room k = e
-no_cycle R M before after (Cycle n) f e room k = absurd (k n refl)
-no_cycle R M before after NoRoom f e room k = let l = f.0 in absurd (omega arith)
 
 -- a relation within the numbers below n has no cycle where it has none among them
 pub within_acyclic : (R : ℕ → ℕ → Bool) (M : ℕ → Bool) → ((a b : ℕ) → R a b ≡ true → (M a ≡ true) × (M b ≡ true)) → Acyclic (Among M R) → Acyclic (λ a b. R a b ≡ true)

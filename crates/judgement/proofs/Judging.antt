@@ -21,7 +21,7 @@ use Rattle.judgement.specs.Showing.{Evident, OwnSought, verdict_of}
 use Rattle.judgement.specs.Verdicts.{Absent, First, Finding, Judged, OwnJudged, SharedJudged, Lent, Fits, OrderAnswer, OrderGiven, OrderRefused, in_own, in_shared}
 use Rattle.violations.specs.Violations.{OwnClean}
 use Rattle.violations.proofs.Deciding.{own_clean, shared_clean, own_explains, shared_explains, lawful_read}
-use Rattle.judgement.proofs.Ranks.{shown_holds}
+use Rattle.judgement.proofs.Holding.{shown_holds}
 
 module _ (ops : List Operation) (V : Rel) where
   -- of the violations that a judgement looks for, no other than the last three can hold where the own judgement finds none

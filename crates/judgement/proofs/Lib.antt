@@ -1,7 +1,7 @@
 pub mod Recordings
 pub mod Fronts
 pub mod Arbitrating
-pub mod Ranks
+pub mod Holding
 pub mod Judging
 pub mod Passings
 pub mod Sessioning

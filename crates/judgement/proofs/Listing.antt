@@ -1,9 +1,9 @@
 -- A listing, as an order of what an operation sees that the one way to find orders puts.
-use Rattle.std.proofs.Common.{◌≡◌, ℕ, ◌<◌, ◌≤◌, Bool, true, false, not, ◌&&◌, ◌||◌, eqb, ltb, ◌⊎◌, List, length, take, Decides, sym, refl, subst, inl, inr, arith}
+use Rattle.std.proofs.Common.{◌≡◌, ℕ, ◌<◌, ◌≤◌, Bool, true, false, not, ◌&&◌, ◌||◌, eqb, ltb, ◌⊎◌, List, length, take, Ok, Err, Result, IsOk, Decides, sym, refl, subst, inl, inr, arith}
 use Rattle.std.proofs.lemmas.Bool.{and_parts, and_from, or_cases, or_left, or_right, not-true, not_from_false, both_ways, lt-ltb, ne_eqb, eqb-false, cases_Bool}
 use Rattle.recording.specs.declared.operation.Operation.{Operation}
-use Rattle.relation.specs.declared.order.Outcome.{Outcome}
-use Rattle.relation.specs.declared.order.Outcome.TheVariants.{Order, Cycle, NoRoom}
+use Rattle.relation.specs.declared.order.Obstacle.{Obstacle}
+use Rattle.relation.specs.declared.order.Obstacle.TheVariants.{Cycle, NoRoom}
 use Rattle.relation.specs.Found.{Found, Exactly}
 use Rattle.relation.specs.Steps.{one, Lists}
 use Rattle.relation.proofs.Extending.{steps_wider}
@@ -66,13 +66,13 @@ module _ (ops : List Operation) (valid : Valid ops) (few : length ops ≤ 256) (
 
   module _ (before after : List ℕ) (room : length before ≡ 256) where
     -- there is always an order
-    pub always_listed : (r : Outcome) → Found Kept M before after r → Exactly Kept M r → ((n : ℕ) → ¬ (r ≡ Order n)) → ⊥
-    always_listed (Order n) f x z = z n refl
-    always_listed (Cycle n) f x z = x (λ a s. put_acyclic ops V L own o last H I cyclic a (steps_wider (λ x y h. one (kept_puts x y h.2)) s))
-    always_listed NoRoom f x z = let h = f.0 in omega arith
+    pub always_listed : (r : Result ℕ Obstacle) → Found Kept M before after r → Exactly Kept M r → IsOk r
+    always_listed (Ok n) f x = refl
+    always_listed (Err (Cycle n)) f x = absurd (x (λ a s. put_acyclic ops V L own o last H I cyclic a (steps_wider (λ x y h. one (kept_puts x y h.2)) s)))
+    always_listed (Err NoRoom) f x = let h = f.0 in absurd (omega arith)
 
     -- and it is a listing
-    pub listed_past : length after ≡ 256 → (n : ℕ) → Found Kept M before after (Order n) → ListedPast ops V o n before after
+    pub listed_past : length after ≡ 256 → (n : ℕ) → Found Kept M before after (Ok n) → ListedPast ops V o n before after
     listed_past long n f =
         let most : n ≤ 256 = f.1 in
         let fits : n ≤ length after = omega arith in

@@ -66,7 +66,7 @@ module _ (ops : List Operation) (V : Rel) where
       so_far_clean (Some c) f p = p
 
       pub pass_clean : (c : Option (AtStation Rivals)) → FoundAt ops V n (Ok None) → Passed ops V s c → Passed ops V (s + 1) c
-      pass_clean c f p = record { init = init_on (no_init_any n f.0 f.1 f.2.0) p.init; cyclic = so_far_clean c f p.cyclic }
+      pass_clean c f p = record { init = init_on (no_init_any n f.0 f.1 f.2) p.init; cyclic = so_far_clean c f p.cyclic }
 
       so_far_cyclic : (c : Option (AtStation Rivals)) (t : Rivals) → FoundAt ops V n (Ok (Some t)) → CyclicSoFar ops V s c → CyclicSoFar ops V (s + 1) (option_or c (Some (record { station = s; last = n; found = t })))
       so_far_cyclic None t f p = record {
@@ -74,13 +74,13 @@ module _ (ops : List Operation) (V : Rel) where
         station = l.1;
         H = f.0;
         happened = f.1;
-        smallest = f.2.1;
-        earlier = λ q h last. let z = p q last h in no_cyclic_any q z.0 z.1 z.2.1 last;
+        smallest = f.3;
+        earlier = λ q h last. let z = p q last h in no_cyclic_any q z.0 z.1 z.3 last;
       }
       so_far_cyclic (Some c) t f p = p
 
       pub pass_cyclic : (c : Option (AtStation Rivals)) (t : Rivals) → FoundAt ops V n (Ok (Some t)) → Passed ops V s c → Passed ops V (s + 1) (option_or c (Some (record { station = s; last = n; found = t })))
-      pass_cyclic c t f p = record { init = init_on (no_init_any n f.0 f.1 f.2.0) p.init; cyclic = so_far_cyclic c t f p.cyclic }
+      pass_cyclic c t f p = record { init = init_on (no_init_any n f.0 f.1 f.2) p.init; cyclic = so_far_cyclic c t f p.cyclic }
 
       pub pass_init : (c : Option (AtStation Rivals)) (p : Pair) → FoundAt ops V n (Err p) → Passed ops V s c → InitAt ops V s n p
       pass_init c p f k = record { last = is_last s n l; station = l.1; H = f.0; happened = f.1; smallest = f.2; earlier = k.init }

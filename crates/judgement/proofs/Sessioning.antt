@@ -30,7 +30,7 @@ module _ (ops : List Operation) (valid : Valid ops) (V : Rel) (L : IsLeast Causa
   pub session_judged : (r : Result (Unit {0}) Shown) → SessionSought ops V before after r → SessionJudged ops (verdict_of 0 (result_and r (Ok 0))) V before after
   session_judged (Err s) f = violation_judged CausalDemand 0 0 refl ops V L before after in_session (SessionExplained ops) (λ V e. SessionExplains ops V × (e ≡ [])) session_means s f
   session_judged (Ok u) f =
-      let x = session_explains ops valid V L f.0 (λ o last. let z = f.1 o last in (z.0, z.1, z.2.0, z.2.1)) in
+      let x = session_explains ops valid V L f.0 f.1 in
       explained_judged CausalDemand 0 0 refl ops V L before after in_session (SessionExplained ops) (λ V e. SessionExplains ops V × (e ≡ [])) 0 (V, x) (x, refl) (omega arith) (λ i h. ap (λ l. get_or l i 0) f.2)
 
 -- a listing for a station, where the session judgement finds nothing

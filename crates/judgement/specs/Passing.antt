@@ -11,12 +11,9 @@ use Rattle.judgement.specs.declared.stale.AtStation.{AtStation}
 use Rattle.judgement.specs.Verdicts.{NoInitAt, InitAt, CyclicAt}
 
 -- with H what has happened before what for o: violation 6, or else 7, or none, with the smallest numbers
-abbrev pub FoundIn : List Operation → ℕ → Rel → Result (Option Rivals) Pair → Type 0
-FoundIn ops o H (Err p) = SmallestPair (HbInitRead ops o H) (Some p)
-FoundIn ops o H (Ok t) = SmallestPair (HbInitRead ops o H) None × SmallestRivals (CyclicHb ops o H) t
-
 abbrev pub FoundAt : List Operation → Rel → ℕ → Result (Option Rivals) Pair → Type 0
-FoundAt ops V o found = (H : Rel) × HappensBefore ops V o H × FoundIn ops o H found
+FoundAt ops V o (Err p) = (H : Rel) × HappensBefore ops V o H × SmallestPair (HbInitRead ops o H) (Some p)
+FoundAt ops V o (Ok t) = (H : Rel) × HappensBefore ops V o H × SmallestPair (HbInitRead ops o H) None × SmallestRivals (CyclicHb ops o H) t
 
 -- the first violation 7 of the stations that are passed; or there is none
 abbrev pub CyclicSoFar : List Operation → Rel → ℕ → Option (AtStation Rivals) → Type 0

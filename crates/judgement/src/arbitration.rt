@@ -8,11 +8,11 @@ use crate::lending::NUMBERS;
 use crate::scene::Scene;
 use crate::shown::Shown;
 use crate::verdict::Violation;
-use relation::{Narrowed, Outcome, Union, order_or_cycle};
+use relation::{Narrowed, Obstacle, Union, order_or_cycle};
 use rows::Table;
 use violations::writes;
 
-impl Scene<'_> {
+impl Scene<'_, '_> {
     // Puts at the front of the evidence an order of all writes that keeps visibility and conflicts, and answers its length;
     // or shows a cycle of these.
     pub(crate) fn arbitrate(
@@ -32,13 +32,13 @@ impl Scene<'_> {
             other: conflicts,
         };
         match order_or_cycle(&kept, mask, evidence) {
-            Outcome::Order(count) => Ok(count),
-            Outcome::Cycle(count) => Err(Shown {
+            Ok(count) => Ok(count),
+            Err(Obstacle::Cycle(count)) => Err(Shown {
                 violation: Violation::BadArb,
                 station: 0,
                 count,
             }),
-            Outcome::NoRoom => unreachable(),
+            Err(Obstacle::NoRoom) => unreachable(),
         }
     }
 }

@@ -5,13 +5,14 @@ ghost use Rattle.recording.specs.Telling.{recorded};
 ghost use Rattle.rows.specs.Members.{related};
 ghost use Rattle.judgement.specs.Ordered.{OrderFound, OrderedFor};
 ghost use Rattle.judgement.specs.Verdicts.{OrderAnswer, lent};
+ghost use Rattle.violations.specs.Views.{operations_of, seen_of};
 ghost use Rattle.violations.specs.Violations.{OwnClean};
 
 use crate::lending::{NUMBERS, WORDS};
 use crate::own::own_verdict;
 use crate::refusal::Refusal;
 use recording::Recording;
-use relation::{Narrowed, Outcome, Union, order_or_cycle};
+use relation::{Narrowed, Union, order_or_cycle};
 use rows::Table;
 use violations::{View, writes};
 use visibility::Rule;
@@ -52,30 +53,23 @@ fn own_order<R: Rule>(
     ensures { OrderFound (R.demands rule.now) (R.known rule.now) (recorded recording.now).operations read (related seen.new) evidence.old evidence.new result }
 {
     own_verdict(recording, rule, seen, evidence).grant()?;
-    Ok(order_writes(recording, Table { words: seen }, read, evidence))
+    let seen = Table { words: seen };
+    let view = View { recording, seen };
+    Ok(order_writes(view, read, evidence))
 }
 
 // Puts an order for a read at the front of the evidence, and answers its length.
-fn order_writes<'a>(
-    recording: &'a Recording,
-    seen: Table<'a>,
-    read: usize,
-    evidence: &mut [u16; NUMBERS],
-) -> usize
-    requires { OwnClean (recorded recording.now).operations (related seen.words.now) }
-    ensures { OrderedFor (recorded recording.now).operations (related seen.entry.words.now) read result evidence.old evidence.new }
+fn order_writes(view: View<'_, '_>, read: usize, evidence: &mut [u16; NUMBERS]) -> usize
+    requires { OwnClean (operations_of view) (seen_of view) }
+    ensures { OrderedFor (operations_of view.entry) (seen_of view.entry) read result evidence.old evidence.new }
 {
-    let view = View { recording, seen };
-    let mask = writes(recording);
+    let mask = writes(view.recording);
     let kept = Union {
         one: Narrowed {
-            relation: seen,
+            relation: view.seen,
             mask,
         },
         other: view.forced(read),
     };
-    match order_or_cycle(&kept, mask, evidence) {
-        Outcome::Order(count) => count,
-        _ => unreachable(),
-    }
+    order_or_cycle(&kept, mask, evidence).unwrap()
 }

@@ -3,6 +3,7 @@ ghost use Rattle.std.specs.Prelude.{◌≡◌, ◌<◌, length};
 ghost use Rattle.recording.specs.Telling.{recorded};
 ghost use Rattle.rows.specs.Members.{related};
 ghost use Rattle.visibility.specs.Visible.{CausalDemand, IsLeast};
+ghost use Rattle.violations.specs.Views.{operations_of, seen_of};
 ghost use Rattle.sessions.specs.Happening.{Last};
 ghost use Rattle.sessions.specs.Listings.{SessionExplains};
 ghost use Rattle.judgement.specs.Ordered.{ListingFound, ListedPast};
@@ -13,7 +14,7 @@ use crate::refusal::Refusal;
 use crate::session::session_verdict;
 use crate::stale::last_of;
 use recording::Recording;
-use relation::{Outcome, order_or_cycle};
+use relation::order_or_cycle;
 use rows::Table;
 use sessions::{Listed, StationView, station_reads};
 use violations::View;
@@ -54,33 +55,31 @@ fn session_order(
 {
     session_verdict(recording, seen, working, evidence).grant()?;
     match last_of(recording, station) {
-        Some(last) => Ok(list_past(recording, Table { words: seen }, last, working, evidence)),
+        Some(last) => {
+            let seen = Table { words: seen };
+            let view = View { recording, seen };
+            let here = StationView { view, last };
+            Ok(list_past(here, working, evidence))
+        }
         None => Ok(0),
     }
 }
 
 // Puts a listing of the last operation of a station at the front of the evidence, and answers its length.
-fn list_past<'a>(
-    recording: &'a Recording,
-    seen: Table<'a>,
-    last: usize,
+fn list_past(
+    here: StationView<'_, '_>,
     working: &mut [u64; WORDS],
     evidence: &mut [u16; NUMBERS],
 ) -> usize
-    requires last { Last (recorded recording.now).operations last }
-    requires least { IsLeast CausalDemand (recorded recording.now).operations (related seen.words.now) }
-    requires session_explains { SessionExplains (recorded recording.now).operations (related seen.words.now) }
-    ensures { ListedPast (recorded recording.now).operations (related seen.entry.words.now) last result evidence.old evidence.new }
+    requires last { Last (operations_of here.view) here.last }
+    requires least { IsLeast CausalDemand (operations_of here.view) (seen_of here.view) }
+    requires session_explains { SessionExplains (operations_of here.view) (seen_of here.view) }
+    ensures { ListedPast (operations_of here.entry.view) (seen_of here.entry.view) here.entry.last result evidence.old evidence.new }
 {
-    let view = View { recording, seen };
-    let here = StationView { view, last };
     here.put_happened(working);
     let listed = Listed {
         happened: Table { words: working },
-        reads: station_reads(recording, last),
+        reads: station_reads(here.view.recording, here.last),
     };
-    match order_or_cycle(&listed, here.past(), evidence) {
-        Outcome::Order(count) => count,
-        _ => unreachable(),
-    }
+    order_or_cycle(&listed, here.past(), evidence).unwrap()
 }

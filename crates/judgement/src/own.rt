@@ -8,6 +8,8 @@ use crate::refusal::Refusal;
 use crate::scene::Scene;
 use crate::verdict::Verdict;
 use recording::Recording;
+use rows::Table;
+use violations::View;
 use visibility::{Rule, least_visibility};
 
 /// Whether each read has an order of all writes that gives it its value, under a visibility as the rule demands it.
@@ -39,6 +41,8 @@ pub(crate) fn own_verdict<R: Rule>(
     ensures { OwnJudged (R.demands rule.now) (R.known rule.now) (recorded recording.now).operations result (related seen.new) evidence.old evidence.new }
 {
     least_visibility(recording, rule, seen);
-    let scene = Scene::of(recording, seen);
+    let seen = Table { words: seen };
+    let view = View { recording, seen };
+    let scene = Scene { view };
     Verdict::of(rule.label(), scene.check_own(evidence).and(Ok(0)))
 }

@@ -11,6 +11,8 @@ use crate::scene::Scene;
 use crate::shown::Shown;
 use crate::verdict::{Verdict, Violation};
 use recording::Recording;
+use rows::Table;
+use violations::View;
 use visibility::{Causal, least_visibility};
 
 /// Whether a causal order exists in which every operation has a listing of what comes before it that gives each read of its
@@ -42,11 +44,13 @@ pub(crate) fn session_verdict(
     ensures { SessionJudged (recorded recording.now).operations result (related seen.new) evidence.old evidence.new }
 {
     least_visibility(recording, &Causal, seen);
-    let scene = Scene::of(recording, seen);
+    let seen = Table { words: seen };
+    let view = View { recording, seen };
+    let scene = Scene { view };
     Verdict::of(0, scene.check_session(working, evidence).and(Ok(0)))
 }
 
-impl Scene<'_> {
+impl Scene<'_, '_> {
     // Shows the first violation of the session judgement that holds.
     fn check_session(
         self,

@@ -12,6 +12,7 @@ use crate::shown::Shown;
 use crate::verdict::Verdict;
 use recording::Recording;
 use rows::Table;
+use violations::View;
 use visibility::{Rule, least_visibility};
 
 /// Whether one order of all writes gives every read its value, under a visibility as the rule demands it.
@@ -44,11 +45,13 @@ fn shared_verdict<R: Rule>(
     ensures { SharedJudged (R.demands rule.now) (R.known rule.now) (recorded recording.now).operations result (related seen.new) evidence.old evidence.new }
 {
     least_visibility(recording, rule, seen);
-    let scene = Scene::of(recording, seen);
+    let seen = Table { words: seen };
+    let view = View { recording, seen };
+    let scene = Scene { view };
     Verdict::of(rule.label(), scene.check_shared(working, evidence))
 }
 
-impl Scene<'_> {
+impl Scene<'_, '_> {
     // Puts an order of all writes for all reads at the front of the evidence, and answers its length; or shows the first
     // violation of the shared judgement that holds.
     fn check_shared(

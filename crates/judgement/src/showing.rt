@@ -7,11 +7,11 @@ use crate::lending::NUMBERS;
 use crate::scene::Scene;
 use crate::shown::Shown;
 use crate::verdict::Violation;
-use relation::{Outcome, order_or_cycle};
+use relation::{Obstacle, order_or_cycle};
 use rows::Row;
 use violations::thin_air;
 
-impl Scene<'_> {
+impl Scene<'_, '_> {
     // Shows the first violation of the own judgement that holds.
     pub(crate) fn check_own(self, evidence: &mut [u16; NUMBERS]) -> Result<(), Shown>
         ensures { OwnSought (operations_of self.entry.view) (seen_of self.entry.view) evidence.old evidence.new result }
@@ -42,13 +42,14 @@ impl Scene<'_> {
             Row::below(self.view.recording.count()),
             &mut list,
         ) {
-            Outcome::Cycle(count) => Err(Shown::put(
+            Ok(_) => Ok(()),
+            Err(Obstacle::Cycle(count)) => Err(Shown::put(
                 Violation::BadVisibility,
                 0,
-                &list[0..count],
+                &list[..count],
                 evidence,
             )),
-            _ => Ok(()),
+            Err(Obstacle::NoRoom) => unreachable(),
         }
     }
 

@@ -2,8 +2,7 @@
 ghost use Rattle.std.specs.Prelude.{◌≡◌, ◌+◌, ◌<◌, length};
 ghost use Rattle.recording.specs.Stations.{LastOf};
 ghost use Rattle.recording.specs.Telling.{recorded};
-ghost use Rattle.rows.specs.Members.{related};
-ghost use Rattle.judgement.specs.Passing.{FoundAt, FoundIn, Passed, PassedTo};
+ghost use Rattle.judgement.specs.Passing.{FoundAt, Passed, PassedTo};
 ghost use Rattle.violations.specs.Views.{operations_of, seen_of};
 
 use crate::lending::WORDS;
@@ -22,7 +21,7 @@ pub(crate) fn last_of(recording: &Recording, station: usize) -> Option<usize>
     recording.entry(station)?.last
 }
 
-impl Scene<'_> {
+impl Scene<'_, '_> {
     // The first station with violation 6, as an error; else the first with violation 7, if there is one.
     pub(crate) fn pass_stations(
         self,
@@ -73,22 +72,13 @@ impl Scene<'_> {
     {
         let view = self.view;
         StationView { view, last }.put_happened(working);
-        find_in(view.recording, Table { words: working }, last)
-    }
-}
-
-// What stands against a station of what has happened before what: violation 6, as an error; else violation 7.
-fn find_in<'a>(
-    recording: &'a Recording,
-    seen: Table<'a>,
-    last: usize,
-) -> Result<Option<Rivals>, Pair>
-    ensures { FoundIn (recorded recording.now).operations last (related seen.entry.words.now) result }
-{
-    let view = View { recording, seen };
-    let happened = StationView { view, last };
-    match happened.hb_init_read() {
-        Some(pair) => Err(pair),
-        None => Ok(happened.cyclic_hb()),
+        let recording = view.recording;
+        let seen = Table { words: working };
+        let view = View { recording, seen };
+        let happened = StationView { view, last };
+        match happened.hb_init_read() {
+            Some(pair) => Err(pair),
+            None => Ok(happened.cyclic_hb()),
+        }
     }
 }

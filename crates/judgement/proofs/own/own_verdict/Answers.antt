@@ -1,7 +1,7 @@
-use Rattle.std.proofs.Common.{sym, ap, ◌∙◌, subst, subst₂, rules}
+use Rattle.std.proofs.Common.{sym, ap, ◌∙◌, subst, rules}
 use Rattle.recording.specs.Telling.{recorded}
 use Rattle.rows.specs.Members.{related}
-use Rattle.judgement.specs.Showing.{OwnSought, verdict_of}
+use Rattle.judgement.specs.Showing.{verdict_of}
 use Rattle.judgement.specs.Verdicts.{OwnJudged}
 use Rattle.judgement.proofs.Judging.{own_judged}
 use Rattle.judgement.proofs.Recordings.{valid_of}
@@ -16,5 +16,4 @@ returns g c =
     let before = c.args.evidence.now in
     let after = c.check_own.new.evidence in
     subst (λ v. OwnJudged D known (recorded r).operations v V before after) (sym (c.of.ensures ∙ ap (verdict_of c.label.result) c.and.ensures))
-    (own_judged D known c.label.result c.label.ensures (recorded r).operations (valid_of r) V (c.least_visibility.ensures.least (search rules)) before after c.check_own.result
-    (subst₂ (λ r w. OwnSought (recorded r).operations (related w) before after c.check_own.result) c.of-scene.ensures.recording c.of-scene.ensures.seen c.check_own.ensures))
+    (own_judged D known c.label.result c.label.ensures (recorded r).operations (valid_of r) V (c.least_visibility.ensures.least (search rules)) before after c.check_own.result c.check_own.ensures)

@@ -1,7 +1,6 @@
-use Rattle.std.proofs.Common.{sym, ap, ◌∙◌, subst, subst₂, rules}
+use Rattle.std.proofs.Common.{sym, ap, ◌∙◌, subst, rules}
 use Rattle.recording.specs.Telling.{recorded}
 use Rattle.rows.specs.Members.{related}
-use Rattle.judgement.specs.Stale.{SessionSought}
 use Rattle.judgement.specs.Showing.{verdict_of}
 use Rattle.judgement.specs.Verdicts.{SessionJudged}
 use Rattle.judgement.proofs.Sessioning.{session_judged}
@@ -15,5 +14,4 @@ returns c =
     let before = c.args.evidence.now in
     let after = c.check_session.new.evidence in
     subst (λ v. SessionJudged (recorded r).operations v V before after) (sym (c.of.ensures ∙ ap (verdict_of 0) c.and.ensures))
-    (session_judged (recorded r).operations (valid_of r) V (c.least_visibility.ensures.least (search rules)) before after c.check_session.result
-    (subst₂ (λ r w. SessionSought (recorded r).operations (related w) before after c.check_session.result) c.of-scene.ensures.recording c.of-scene.ensures.seen c.check_session.ensures))
+    (session_judged (recorded r).operations (valid_of r) V (c.least_visibility.ensures.least (search rules)) before after c.check_session.result c.check_session.ensures)

@@ -1,7 +1,6 @@
-use Rattle.std.proofs.Common.{sym, subst, subst₂, rules}
+use Rattle.std.proofs.Common.{sym, subst, rules}
 use Rattle.recording.specs.Telling.{recorded}
 use Rattle.rows.specs.Members.{related}
-use Rattle.judgement.specs.Arbitrated.{SharedSought}
 use Rattle.judgement.specs.Verdicts.{SharedJudged}
 use Rattle.judgement.proofs.Judging.{shared_judged}
 use Rattle.judgement.proofs.Recordings.{valid_of}
@@ -16,5 +15,4 @@ returns g c =
     let before = c.args.evidence.now in
     let after = c.check_shared.new.evidence in
     subst (λ v. SharedJudged D known (recorded r).operations v V before after) (sym c.of.ensures)
-    (shared_judged D known c.label.result c.label.ensures (recorded r).operations (valid_of r) V (c.least_visibility.ensures.least (search rules)) before after c.check_shared.result
-    (subst₂ (λ r w. SharedSought (recorded r).operations (related w) before after c.check_shared.result) c.of-scene.ensures.recording c.of-scene.ensures.seen c.check_shared.ensures))
+    (shared_judged D known c.label.result c.label.ensures (recorded r).operations (valid_of r) V (c.least_visibility.ensures.least (search rules)) before after c.check_shared.result c.check_shared.ensures)
