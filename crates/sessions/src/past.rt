@@ -23,7 +23,7 @@ impl StationView<'_, '_> {
             let recording = self.view.recording;
             grow(
                 &Happening::of(recording, self.last),
-                &Outline::of(recording),
+                &Outline::from(recording),
                 table,
             );
         }

@@ -44,7 +44,7 @@ fn print_growth<R: Rule>(
     operations: u32,
 ) -> io::Result<()> {
     let recording = chain(operations);
-    let outline = Outline::of(&recording);
+    let outline = Outline::from(&recording);
     let mut words = [0u64; 1024];
     put_sources(&recording, &mut words);
     let start = Instant::now(rt)?;

@@ -1,42 +1,14 @@
 -- A row that is filled number by number with what passes a test.
-use Rattle.std.proofs.Common.{◌≡◌, ℕ, ◌+◌, ◌<◌, ◌≤◌, Bool, true, false, ◌&&◌, ◌||◌, eqb, ltb, Decides, sym, refl, ap, ◌∙◌, subst, inl, inr, arith}
-use Rattle.std.proofs.lemmas.Bool.{cases_eq, cases_Bool, both_ways, eq-eqb, ne_eqb, lt-ltb}
-use Rattle.std.proofs.lemmas.Bool.Decides.{nat_tests}
+use Rattle.std.proofs.Common.{◌≡◌, ℕ, ◌+◌, ◌<◌, ◌≤◌, Bool, true, false, ◌||◌, eqb, Decides, sym, refl, ap, ◌∙◌, subst, inl, inr, arith}
+use Rattle.std.proofs.lemmas.Bool.{cases_eq, both_ways, eq-eqb, ne_eqb}
 
-module _ (P : ℕ → Bool) (b k : ℕ) where
-  same_below : (k ≡ b → ⊥) → ltb k b ≡ ltb k (b + 1)
-  same_below ne = grind (arith, nat_tests)
+or_no : (x : Bool) → (x || false) ≡ x
+or_no true = refl
+or_no false = refl
 
-  or_no : (x : Bool) → (x || false) ≡ x
-  or_no true = refl
-  or_no false = refl
-
-  or_yes : (x : Bool) → (x || true) ≡ true
-  or_yes true = refl
-  or_yes false = refl
-
-  and_no : (x : Bool) → (x && false) ≡ false
-  and_no true = refl
-  and_no false = refl
-
-  pub more_passes : P b ≡ true → ((ltb k b && P k) || eqb k b) ≡ (ltb k (b + 1) && P k)
-  more_passes e = elim (cases_eq k b) [
-    | inl z ↦ ap (λ x. (ltb k b && P k) || x) (eq-eqb k b z) ∙ or_yes (ltb k b && P k) ∙ (λ i. sym (lt-ltb k (b + 1) (omega arith)) i && sym (ap P z ∙ e) i)
-    | inr z ↦ ap (λ x. (ltb k b && P k) || x) (ne_eqb k b z) ∙ or_no (ltb k b && P k) ∙ ap (λ x. x && P k) (same_below z)
-  ]
-
-  pub more_fails : P b ≡ false → (ltb k b && P k) ≡ (ltb k (b + 1) && P k)
-  more_fails e = elim (cases_eq k b) [
-    | inl z ↦ ap (λ x. ltb k b && x) (ap P z ∙ e) ∙ and_no (ltb k b) ∙ sym (ap (λ x. ltb k (b + 1) && x) (ap P z ∙ e) ∙ and_no (ltb k (b + 1)))
-    | inr z ↦ ap (λ x. x && P k) (same_below z)
-  ]
-
-  -- where all that passes is below b, nothing is left out
-  pub all_passed : (P k ≡ true → k < b) → (ltb k b && P k) ≡ P k
-  all_passed low = elim (cases_Bool (P k)) [
-    | inl e ↦ ap (λ x. x && P k) (lt-ltb k b (low e))
-    | inr e ↦ ap (λ x. ltb k b && x) e ∙ and_no (ltb k b) ∙ sym e
-  ]
+or_yes : (x : Bool) → (x || true) ≡ true
+or_yes true = refl
+or_yes false = refl
 
 -- the numbers below n are asked for, and no other is in the row
 pub record Filled (D : ℕ → Type 0) (row : ℕ → Bool) (n : ℕ) : Type 0 where
@@ -47,13 +19,13 @@ module _ (D : ℕ → Type 0) (row : ℕ → Bool) (b : ℕ) (v : Filled D row b
   pub filled_with : (more : ℕ → Bool) → ((k : ℕ) → more k ≡ (row k || eqb k b)) → D b → Filled D more (b + 1)
   filled_with more e d = record {
     below = λ k h. elim (cases_eq k b) [
-      | inl z ↦ (λ _. subst D (sym z) d, λ _. e k ∙ ap (λ x. row k || x) (eq-eqb k b z) ∙ or_yes (λ _. true) b k (row k))
+      | inl z ↦ (λ _. subst D (sym z) d, λ _. e k ∙ ap (λ x. row k || x) (eq-eqb k b z) ∙ or_yes (row k))
       | inr z ↦
-          let same : more k ≡ row k = e k ∙ ap (λ x. row k || x) (ne_eqb k b z) ∙ or_no (λ _. true) b k (row k) in
+          let same : more k ≡ row k = e k ∙ ap (λ x. row k || x) (ne_eqb k b z) ∙ or_no (row k) in
           let w = v.below k (omega arith) in
           (λ h. w.0 (sym same ∙ h), λ d. same ∙ w.1 d)
     ];
-    above = λ k h. e k ∙ ap (λ x. row k || x) (ne_eqb k b (λ z. omega arith)) ∙ or_no (λ _. true) b k (row k) ∙ v.above k (omega arith);
+    above = λ k h. e k ∙ ap (λ x. row k || x) (ne_eqb k b (λ z. omega arith)) ∙ or_no (row k) ∙ v.above k (omega arith);
   }
 
   pub filled_without : ¬ D b → Filled D row (b + 1)

@@ -1,8 +1,8 @@
 pub mod Below
 pub mod Stations
+pub mod Lates
 pub mod Rounds
 pub mod Leasts
 pub mod Walks
 pub mod Spelled
-pub mod Drafting
 pub mod Readings

@@ -1,6 +1,6 @@
 -- One row, one round: what they do to a table.
 use Rattle.std.proofs.Common.{◌≡◌, ℕ, ◌+◌, ◌*◌, ◌/◌, ◌%◌, ◌<◌, ◌≤◌, Bool, true, false, ◌||◌, List, length, Decides, sym, refl, ap, ◌∙◌, subst, ap₂, inl, inr, arith}
-use Rattle.std.proofs.lemmas.Bool.{cases_eq, cases_lt, both_ways, or_cases, or_parts, or_left, or_right}
+use Rattle.std.proofs.lemmas.Bool.{cases_eq, cases_lt, both_ways, or_cases, or_parts, or_left}
 use Rattle.rows.specs.Members.{related, row_of}
 use Rattle.rows.proofs.Sizes.{size_mono, size_full}
 use Rattle.rows.proofs.Rows.{has_past}
@@ -12,9 +12,9 @@ pub filled_mono : (t u : List ℕ) → Inside (related t) (related u) → filled
 filled_mono t u i = size_mono (λ k. related t (k / 256) (k % 256)) (λ k. related u (k / 256) (k % 256)) 65536 (λ k h. i (k / 256) (k % 256) h)
 
 module _ (D : Rel → ℕ → ℕ → Type 0) where
-  -- the rows from mid on, and then those below
-  pub grown_then : (low mid high : ℕ) (t u v : List ℕ) (x y : Bool) → Grown D mid high t u x → Grown D low mid u v y → Grown D low high t v (x || y)
-  grown_then low mid high t u v x y p q = record {
+  -- the rows from mid on, and then the one below
+  pub grown_then : (low mid high : ℕ) (t u v : List ℕ) (x y : Bool) → mid ≡ low + 1 → Grown D mid high t u x → Grown D low (low + 1) u v y → Grown D low high t v (x || y)
+  grown_then low mid high t u v x y next p q = record {
     long = q.long;
     holds = λ a b h. q.holds a b (p.holds a b h);
     within = λ S i c. q.within S (p.within S i c) c;
@@ -25,22 +25,12 @@ module _ (D : Rel → ℕ → ℕ → Type 0) where
           | inr s ↦ p.closed e.0 a b s m d
           | inl s ↦
               let z = p.same e.0 in
-              subst (λ (w : List ℕ). related w a b ≡ true) z (q.closed e.1 a b l s (subst (λ (w : List ℕ). D (related w) a b) (sym z) d))
+              subst (λ (w : List ℕ). related w a b ≡ true) z (q.closed e.1 a b l (omega arith) (subst (λ (w : List ℕ). D (related w) a b) (sym z) d))
         ];
     more = λ h.
         let i = filled_mono t u p.holds in
         let j = filled_mono u v q.holds in
         elim (or_cases x y h) [ inl r ↦ omega (arith, p.more r) | inr r ↦ omega (arith, q.more r) ];
-  }
-
-  pub grown_none : (high : ℕ) (t : List ℕ) → length t ≡ 1024 → Grown D high high t t false
-  grown_none high t l = record {
-    long = l;
-    holds = λ a b h. h;
-    within = λ S i c. i;
-    same = λ h. refl;
-    closed = λ h a b p q. absurd (omega arith);
-    more = λ h. absurd (both_ways false refl h);
   }
 
   -- a round that changed nothing ends in the least closed relation
@@ -59,19 +49,6 @@ module _ (D : Rel → ℕ → ℕ → Type 0) where
 
   module _ (a : ℕ) (t : List ℕ) (old asked new : ℕ → Bool) (small : a < 256) (l : length t ≡ 1024) (was : (b : ℕ) → old b ≡ related t a b)
       (er : (b : ℕ) → Decides (asked b) (D (related t) a b)) (en : (b : ℕ) → new b ≡ (old b || asked b)) where
-    -- a row that has all that is demanded of it
-    pub row_same : ((k : ℕ) → new k ≡ old k) → Grown D a (a + 1) t t false
-    row_same e = record {
-      long = l;
-      holds = λ x b h. h;
-      within = λ S i c. i;
-      same = λ h. refl;
-      closed = λ h x b p q d.
-          let z : x ≡ a = omega arith in
-          ap (λ (y : ℕ). related t y b) z ∙ sym (was b) ∙ sym (e b) ∙ en b ∙ or_right (old b) (asked b) ((er b).1 (subst (λ (y : ℕ). D (related t) y b) z d));
-      more = λ h. absurd (both_ways false refl h);
-    }
-
     module _ (mono : (P Q : Rel) → Inside P Q → (a b : ℕ) → D P a b → D Q a b) (u : List ℕ) (here : (b : ℕ) → related u a b ≡ new b)
         (others : (c b : ℕ) → (c ≡ a → ⊥) → related u c b ≡ related t c b) (long : length u ≡ 1024) (differ : ((k : ℕ) → new k ≡ old k) → ⊥) where
       held : Inside (related t) (related u)

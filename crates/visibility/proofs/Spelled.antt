@@ -193,9 +193,6 @@ draft_begins bytes done (l ∷ cur) d =
     let w = whole_spelled bytes done (l ∷ cur) d (omega arith) in
     record { terms = done ++ (l ∷ cur) ∷ []; lawful = w.0; more = []; spelled = w.1 ∙ sym (append-nil bytes) }
 
-pub draft_none : Drafted [] [] []
-draft_none = record { is = refl; each = tt; few = omega arith; short = omega arith }
-
 pub draft_letter : (bytes : List ℕ) (done : List (List Letter)) (cur : List Letter) (l : Letter) → Drafted bytes done cur → length cur < 4 → Drafted (bytes ++ code l ∷ []) done (cur ++ l ∷ [])
 draft_letter bytes done cur l d h = record {
   is = ap (λ x. x ++ code l ∷ []) d.is ∙ append_assoc (ahead done) (codes cur) (code l ∷ []) ∙ ap (λ x. ahead done ++ x) (sym (codes_push cur l));

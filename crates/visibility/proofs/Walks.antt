@@ -1,6 +1,7 @@
 -- Ways of steps.
-use Rattle.std.proofs.Common.{◌≡◌, ℕ, ◌+◌, ◌<◌, Bool, true, ◌||◌, List, [], ◌∷◌, ◌++◌, Decides, refl, inl, inr, sym, subst, ◌∙◌, arith}
+use Rattle.std.proofs.Common.{◌≡◌, ℕ, ◌+◌, ◌<◌, Bool, true, ◌||◌, List, [], ◌∷◌, ◌++◌, length, get_or, take, Decides, refl, inl, inr, sym, subst, ◌∙◌, arith}
 use Rattle.std.proofs.lemmas.Bool.{cases_eq, or_cases, or_left, or_right}
+use Rattle.std.proofs.lemmas.List.{take_more}
 use Rattle.visibility.specs.declared.outline.Shape.{Shape}
 use Rattle.visibility.specs.declared.terms.Letter.{Letter}
 use Rattle.visibility.specs.Growth.{Rel}
@@ -16,13 +17,14 @@ module _ (f : List Shape) (v : Rel) where
   walk_less (k ∷ ls) l a b w = let r = walk_less ls l w.0 b w.2 in (r.0, (w.0, w.1, r.1), r.2)
 
   -- one letter more
-  pub reached_more : (ls : List Letter) (l : Letter) (a : ℕ) (from to : ℕ → Bool)
-      → ((c : ℕ) → Decides (from c) (Walk f v ls a c)) → ((b : ℕ) → Decides (to b) ((c : ℕ) × (from c ≡ true) × Step f v l c b))
-      → (b : ℕ) → Decides (to b) (Walk f v (ls ++ l ∷ []) a b)
-  reached_more ls l a from to d e b = (
-    λ h. let s = (e b).0 h in walk_more ls l a s.0 b ((d s.0).0 s.1) s.2,
-    λ w. let r = walk_less ls l a b w in (e b).1 (r.0, (d r.0).1 r.1, r.2),
-  )
+  pub reached_more : (ls : List Letter) (n : ℕ) (d : Letter) (a : ℕ) (from to : ℕ → Bool) → n < length ls
+      → ((c : ℕ) → Decides (from c) (Walk f v (take n ls) a c)) → ((b : ℕ) → Decides (to b) ((c : ℕ) × (from c ≡ true) × Step f v (get_or ls n d) c b))
+      → (b : ℕ) → Decides (to b) (Walk f v (take (n + 1) ls) a b)
+  reached_more ls n d a from to h is e b =
+      let more = take_more ls n d h in (
+        λ g. let s = (e b).0 g in subst (λ l. Walk f v l a b) (sym more) (walk_more (take n ls) (get_or ls n d) a s.0 b ((is s.0).0 s.1) s.2),
+        λ w. let r = walk_less (take n ls) (get_or ls n d) a b (subst (λ l. Walk f v l a b) more w) in (e b).1 (r.0, (is r.0).1 r.1, r.2),
+      )
 
 -- one term more
 pub joined_more : (P : ℕ → Type 0) (n : ℕ) (row one all : Bool) → Decides row ((i : ℕ) × (i < n) × P i) → Decides one (P n) → all ≡ (row || one) → Decides all ((i : ℕ) × (i < n + 1) × P i)

@@ -2,6 +2,7 @@ pub mod Shapes
 pub mod Growth
 pub mod Visible
 pub mod Late
+pub mod Few
 pub mod Terms
 pub mod Spelling
 pub mod Drafts

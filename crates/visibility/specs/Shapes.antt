@@ -1,5 +1,5 @@
 -- What a rule may look at: the operations without their values.
-use Rattle.std.specs.Prelude.{◌≡◌, ℕ, ◌<◌, ◌≤◌, Bool, ◌&&◌, List, length, take, Some, None, Option, ◌==◌, nat_lt, slice_index_or}
+use Rattle.std.specs.Prelude.{◌≡◌, ℕ, ◌<◌, ◌≤◌, Bool, ◌&&◌, List, length, Some, None, Option, ◌==◌, nat_lt, slice_index_or}
 use Rattle.recording.specs.declared.operation.Kind.TheVariants.{Write}
 use Rattle.recording.specs.declared.operation.Operation.{Operation}
 use Rattle.visibility.specs.declared.outline.Outline.{Outline}
@@ -10,7 +10,7 @@ shape x = record { kind = x.kind; station = x.station; register = x.register }
 
 -- what an `Outline` holds
 abbrev pub shapes_of : Outline → List Shape
-shapes_of o = take o.count o.shapes
+shapes_of o = o.shapes.items
 
 -- what stands past the end
 abbrev pub no_shape : Shape

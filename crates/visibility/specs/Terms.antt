@@ -1,15 +1,20 @@
 -- Term lists, and what they demand.
-use Rattle.std.specs.Prelude.{◌≡◌, ℕ, zero, suc, ◌*◌, ◌<◌, true, List, [], ◌∷◌, ◌++◌, take, drop, slice_index}
+use Rattle.std.specs.Prelude.{◌≡◌, ℕ, ◌<◌, true, List, [], ◌∷◌, map, length, slice_index_or}
 use Rattle.visibility.specs.declared.outline.Shape.{Shape}
 use Rattle.visibility.specs.declared.terms.Letter.{Letter}
 use Rattle.visibility.specs.declared.terms.Letter.TheVariants.{Station, Seen}
 use Rattle.visibility.specs.declared.terms.TermList.{TermList}
+use Rattle.visibility.specs.Few.{items_of}
 use Rattle.visibility.specs.Growth.{Rel}
 use Rattle.visibility.specs.Shapes.{before}
 
+-- the terms of a term list
+abbrev pub terms_of : TermList → List (List Letter)
+terms_of t = map (λ term. items_of term) (items_of t.terms)
+
 -- term i of a term list
 abbrev pub term_of : TermList → ℕ → List Letter
-term_of t i = take (slice_index t.lengths i) (drop (4 * i) t.letters)
+term_of t i = slice_index_or (terms_of t) i []
 
 -- one step by a letter
 abbrev pub Step : List Shape → Rel → Letter → ℕ → ℕ → Type 0
@@ -23,12 +28,4 @@ Walk f v (l ∷ ls) a b = (c : ℕ) × Step f v l a c × Walk f v ls c b
 
 -- a term list demands each pair that is joined by the steps of one term
 abbrev pub TermDemand : TermList → List Shape → Rel → ℕ → ℕ → Type 0
-TermDemand t f v a b = (i : ℕ) × (i < t.count) × Walk f v (term_of t i) a b
-
--- the first n terms
-unfoldable pub terms_up_to : List ℕ → List Letter → ℕ → List (List Letter)
-terms_up_to lengths letters zero = []
-terms_up_to lengths letters (suc n) = terms_up_to lengths letters n ++ take (slice_index lengths n) (drop (4 * n) letters) ∷ []
-
-abbrev pub terms_of : TermList → List (List Letter)
-terms_of t = terms_up_to t.lengths t.letters t.count
+TermDemand t f v a b = (i : ℕ) × (i < length (terms_of t)) × Walk f v (term_of t i) a b

@@ -1,19 +1,19 @@
 //! A term list while its spelling is read: the finished terms, and the letters of the one that is not.
-ghost use Rattle.std.specs.Prelude.{◌≡◌, ℕ, ◌<◌, ◌≤◌, length, slice_index};
+ghost use Rattle.std.specs.Prelude.{◌≤◌, length};
+ghost use Rattle.visibility.specs.Few.{items_of};
 
-use crate::terms::Letter;
+use crate::few::Few;
+use crate::terms::{TERMS, Term};
 
 mod taking;
 
 #[derive(Clone, Copy)]
 pub(crate) struct Draft {
-    pub(crate) count: usize,
-    pub(crate) current: usize,
-    pub(crate) lengths: [usize; 8],
-    pub(crate) letters: [Letter; 32],
-    ghost few: { count ≤ 7 },
-    ghost short: { current ≤ 4 },
-    ghost eight: { length lengths ≡ 8 },
-    ghost wide: { length letters ≡ 32 },
-    ghost fit: { (i : ℕ) → i < count → slice_index lengths i ≤ 4 },
+    done: Few<Term, TERMS>,
+    current: Term,
+    ghost room: { length (items_of done) ≤ 7 },
 }
+
+/// A byte that no lawful spelling has here.
+#[derive(Clone, Copy)]
+pub(crate) struct Fatal;

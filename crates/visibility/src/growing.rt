@@ -26,21 +26,17 @@ pub fn sweep<R: Rule>(rule: &R, outline: &Outline, table: &mut [u64]) -> bool
     ensures grown { length table.old ≡ 1024 → Grown (Asked (R.demands rule.now) (shapes_of outline.now)) 0 (length (shapes_of outline.now)) table.old table.new result }
     ensures unfit { length table.old ≢ 1024 → (result ≡ false) × (table.new ≡ table.old) }
 {
-    if table.len() == 1024 {
-        return round(rule, outline, table);
-    }
-    false
+    table.len() == 1024 && round(rule, outline, table)
 }
 
 // One round over the rows, the last one first; says whether anything was new.
+// The length is required: with a `&mut [u64; 1024]`, made of the slice in `sweep`, the proof of `sweep` did not close.
 fn round<R: Rule>(rule: &R, outline: &Outline, table: &mut [u64]) -> bool
     requires { length table.old ≡ 1024 }
     ensures { Grown (Asked (R.demands rule.now) (shapes_of outline.now)) 0 (length (shapes_of outline.now)) table.old table.new result }
 {
     let mut changed = false;
-    let mut a = outline.count();
-    while a > 0 {
-        a -= 1;
+    for a in (0..outline.count()).rev() {
         changed |= grow_row(rule, outline, table, a);
     }
     changed

@@ -40,18 +40,10 @@ impl Rule for Late {
     }
 
     fn demanded(&self, outline: &Outline, _seen: Table<'_>, a: usize) -> Row {
-        let later = outline.later(a);
-        let distance = self.distance as usize;
-        let mut row = Row::empty();
-        let mut places = 0;
-        for b in 0..outline.count() {
-            if later.contains(b) {
-                places += 1;
-                if places >= distance {
-                    row = row.with(b);
-                }
-            }
+        let mut later = outline.later(a).members();
+        for _ in 1..self.distance {
+            later.next();
         }
-        row
+        later.left
     }
 }

@@ -18,7 +18,7 @@ pub fn least_visibility<R: Rule>(recording: &Recording, rule: &R, table: &mut [u
 {
     if table.len() == 1024 {
         put_sources(recording, table);
-        grow(rule, &Outline::of(recording), table);
+        grow(rule, &Outline::from(recording), table);
     }
 }
 
@@ -38,10 +38,7 @@ fn put_source(recording: &Recording, table: &mut [u64], read: usize)
     requires { Sources (recorded recording.now).operations read table.old }
     ensures { Sources (recorded recording.now).operations (read + 1) table.new }
 {
-    let Ok(source) = recording.source(read) else {
-        return;
-    };
-    if let Some(write) = source {
+    if let Ok(Some(write)) = recording.source(read) {
         let row = Table { words: table }.row(write).with(read);
         put_row(table, write, row);
     }

@@ -3,6 +3,7 @@
 
 pub mod causal;
 mod draft;
+mod few;
 pub mod growing;
 pub mod late;
 pub mod least;

@@ -1,6 +1,7 @@
 //! What a rule may look at of a recording: stations, kinds and registers in their order, and no values.
 ghost use Rattle.std.specs.Prelude.{◌≡◌, ◌≤◌, length};
 
+use arrayvec::ArrayVec;
 use recording::Kind;
 
 mod later;
@@ -18,8 +19,6 @@ pub struct Shape {
 /// The operations of a recording without their values.
 #[derive(Drop)]
 pub struct Outline {
-    count: usize,
-    shapes: [Shape; 256],
-    ghost few: { count ≤ 256 },
-    ghost room: { length shapes ≡ 256 },
+    shapes: ArrayVec<Shape, 256>,
+    ghost few: { length shapes.items ≤ 256 },
 }

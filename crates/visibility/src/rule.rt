@@ -18,6 +18,7 @@ pub trait Rule {
     ghost known: { Self → ℕ };
 
     /// Whether the pair is demanded; beyond the operations no pair is.
+    // No default by `demanded`: its own is by `asks`, and two defaults that call each other have no proof that they end.
     fn asks(&self, outline: &Outline, seen: Table<'_>, a: usize, b: usize) -> bool
         ensures { Decides result (Asked (demands self.now) (shapes_of outline.now) (related seen.entry.words.now) a b) };
 
@@ -29,13 +30,7 @@ pub trait Rule {
     fn demanded(&self, outline: &Outline, seen: Table<'_>, a: usize) -> Row
         ensures { (b : ℕ) → Decides (member result b) (Asked (demands self.now) (shapes_of outline.now) (related seen.entry.words.now) a b) }
     {
-        let mut row = Row::empty();
-        for b in 0..256 {
-            if self.asks(outline, seen, a, b) {
-                row = row.with(b);
-            }
-        }
-        row
+        Row::below(256).filter(|b| self.asks(outline, seen, a, b))
     }
 
     /// The law: what is demanded under a visibility is demanded under every one that contains it.

@@ -1,8 +1,14 @@
 //! Term lists: terms of letters, each a way of steps by station order and visibility.
-ghost use Rattle.std.specs.Prelude.{◌≡◌, ℕ, ◌<◌, ◌≤◌, length, slice_index};
+use crate::few::Few;
 
 mod spelling;
 mod walking;
+
+// As many letters as a term may have.
+pub(crate) const LETTERS: usize = 4;
+
+// As many terms as a list may have.
+pub(crate) const TERMS: usize = 8;
 
 /// A letter of a term: a step of station order, spelled `s`, or of visibility, spelled `v`.
 #[derive(Clone, Copy)]
@@ -11,16 +17,12 @@ pub enum Letter {
     Seen,
 }
 
-/// At most eight terms of one to four letters: term i has so many of the four letters from 4 * i on.
+pub(crate) type Term = Few<Letter, LETTERS>;
+
+/// At most eight terms of one to four letters.
 #[derive(Clone, Copy)]
 pub struct TermList {
-    count: usize,
-    lengths: [usize; 8],
-    letters: [Letter; 32],
-    ghost few: { count ≤ 8 },
-    ghost eight: { length lengths ≡ 8 },
-    ghost wide: { length letters ≡ 32 },
-    ghost fit: { (i : ℕ) → i < count → slice_index lengths i ≤ 4 },
+    pub(crate) terms: Few<Term, TERMS>,
 }
 
 /// A spelling that no term list has.

@@ -1,15 +1,21 @@
-//! How a draft takes the bytes of a spelling.
+//! How a draft takes the bytes of a spelling, and what is finished where they end.
 ghost use Rattle.std.specs.Prelude.{◌≡◌, []};
-ghost use Rattle.visibility.specs.Drafts.{done_of, current_of, Lettered, Parted, Taken};
+ghost use Rattle.visibility.specs.Few.{items_of};
+ghost use Rattle.visibility.specs.Drafts.{done_of, current_of, Lettered, Parted, Taken, Finished};
 
-use crate::draft::Draft;
-use crate::terms::Letter;
-
-// As many letters as a term may have.
-const LETTERS: usize = 4;
+use crate::draft::{Draft, Fatal};
+use crate::few::Few;
+use crate::terms::{LETTERS, Letter, Term, TermList};
 
 // As many commas as a spelling may have.
 const COMMAS: usize = 7;
+
+// A term without letters.
+fn no_letters() -> Term
+    ensures { items_of result ≡ [] }
+{
+    Few::none(Letter::Station)
+}
 
 impl Draft {
     // Nothing is read yet.
@@ -17,47 +23,56 @@ impl Draft {
         ensures { (done_of result ≡ []) × (current_of result ≡ []) }
     {
         Draft {
-            count: 0,
-            current: 0,
-            lengths: [0; 8],
-            letters: [Letter::Station; 32],
+            done: Few::none(no_letters()),
+            current: no_letters(),
         }
     }
 
-    // Takes one byte, or says that no lawful spelling has it here.
-    pub(crate) fn take(&mut self, byte: u8) -> bool
+    // Takes one byte, if some lawful spelling has it here.
+    pub(crate) fn take(&mut self, byte: u8) -> Result<(), Fatal>
         ensures { Taken (done_of self.old) (current_of self.old) byte result (done_of self.new) (current_of self.new) }
     {
         match byte as char {
             's' => self.letter(Letter::Station),
             'v' => self.letter(Letter::Seen),
             ',' => self.comma(),
-            _ => false,
+            _ => Err(Fatal),
         }
     }
 
     // One letter more, if there are not four.
-    fn letter(&mut self, letter: Letter) -> bool
+    fn letter(&mut self, letter: Letter) -> Result<(), Fatal>
         ensures { Lettered (done_of self.old) (current_of self.old) letter result (done_of self.new) (current_of self.new) }
     {
-        if self.current == LETTERS {
-            return false;
+        if self.current.len() == LETTERS {
+            return Err(Fatal);
         }
-        self.letters[4 * self.count + self.current] = letter;
-        self.current += 1;
-        true
+        self.current.push(letter);
+        Ok(())
     }
 
     // The term is finished, if it has a letter and is not the eighth.
-    fn comma(&mut self) -> bool
+    fn comma(&mut self) -> Result<(), Fatal>
         ensures { Parted (done_of self.old) (current_of self.old) result (done_of self.new) (current_of self.new) }
     {
-        if self.current == 0 || self.count == COMMAS {
-            return false;
+        if self.current.is_empty() || self.done.len() == COMMAS {
+            return Err(Fatal);
         }
-        self.lengths[self.count] = self.current;
-        self.count += 1;
-        self.current = 0;
-        true
+        self.done.push(self.current);
+        self.current = no_letters();
+        Ok(())
+    }
+
+    // The terms, unless a letter has to come after a comma.
+    pub(crate) fn finished(self) -> Option<TermList>
+        ensures { Finished (done_of self) (current_of self) result }
+    {
+        let mut terms = self.done;
+        if !self.current.is_empty() {
+            terms.push(self.current);
+        } else if !terms.is_empty() {
+            return None;
+        }
+        Some(TermList { terms })
     }
 }

@@ -11,14 +11,15 @@ impl Outline {
     pub fn later(&self, a: usize) -> Row
         ensures { (b : ℕ) → member result b ≡ before (shapes_of self.now) a b }
     {
-        let mut row = Row::empty();
-        if a < self.count {
-            for b in a + 1..self.count {
-                if self.shapes[b].station == self.shapes[a].station {
-                    row = row.with(b);
-                }
+        let Some(first) = self.shapes.get(a) else {
+            return Row::empty();
+        };
+        let mut later = Row::empty();
+        for (b, shape) in self.shapes.iter().enumerate().skip(a + 1) {
+            if shape.station == first.station {
+                later = later.with(b);
             }
         }
-        row
+        later
     }
 }

@@ -1,40 +1,55 @@
 //! How an outline is made of a recording.
-ghost use Rattle.std.specs.Prelude.{◌≡◌, map, length};
+ghost use Rattle.std.specs.Prelude.{◌≡◌, ◌≤◌, map, length};
 ghost use Rattle.recording.specs.Telling.{recorded};
-ghost use Rattle.visibility.specs.Shapes.{shapes_of, shape};
+ghost use Rattle.visibility.specs.Shapes.{shapes_of, shape, no_shape};
 
 use crate::outline::{Outline, Shape};
-use recording::{Kind, Recording};
+use arrayvec::ArrayVec;
+use recording::{Kind, Operation, Recording};
 
-impl Outline {
-    /// The outline of a recording.
-    pub fn of(recording: &Recording) -> Outline
-        ensures { shapes_of result ≡ map shape (recorded recording.now).operations }
-    {
-        let blank = Shape {
+// What an unused place of an outline holds.
+impl Default for Shape {
+    ghost is_default = { λ x. x ≡ no_shape };
+
+    fn default() -> Shape {
+        Shape {
             kind: Kind::Write,
             station: 0,
             register: 0,
-        };
-        let mut shapes = [blank; 256];
-        let count = recording.count();
-        for number in 0..count {
-            let Some(operation) = recording.operation(number) else {
-                unreachable()
-            };
-            shapes[number] = Shape {
-                kind: operation.kind,
-                station: operation.station,
-                register: operation.register,
-            };
         }
-        Outline { count, shapes }
     }
+}
 
+impl From<Operation> for Shape {
+    ghost from_gives = { λ operation x. x ≡ shape operation };
+
+    fn from(operation: Operation) -> Shape {
+        Shape {
+            kind: operation.kind,
+            station: operation.station,
+            register: operation.register,
+        }
+    }
+}
+
+impl From<&Recording> for Outline {
+    ghost from_gives = { λ recording outline. shapes_of outline ≡ map shape (recorded recording.now).operations };
+
+    fn from(recording: &Recording) -> Outline {
+        let mut shapes = ArrayVec::new();
+        for operation in recording.operations() {
+            shapes.push(Shape::from(*operation));
+        }
+        Outline { shapes }
+    }
+}
+
+impl Outline {
     /// How many operations there are.
     pub fn count(&self) -> usize
-        ensures { result ≡ length (shapes_of self.now) }
+        ensures count { result ≡ length (shapes_of self.now) }
+        ensures few { result ≤ 256 }
     {
-        self.count
+        self.shapes.len()
     }
 }

@@ -8,10 +8,6 @@ impl Outline {
     pub fn shape(&self, number: usize) -> Option<Shape>
         ensures { ShapeAnswer (shapes_of self.now) number result }
     {
-        if number < self.count {
-            Some(self.shapes[number])
-        } else {
-            None
-        }
+        self.shapes.get(number).copied()
     }
 }

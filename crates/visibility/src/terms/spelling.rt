@@ -1,6 +1,5 @@
 //! Reading a term list from its spelling.
 ghost use Rattle.std.specs.Prelude.{◌≡◌};
-ghost use Rattle.visibility.specs.Drafts.{done_of, current_of, Finished};
 ghost use Rattle.visibility.specs.Reading.{SpellingAnswer};
 
 use crate::draft::Draft;
@@ -14,15 +13,10 @@ impl TermList {
         ensures { SpellingAnswer bytes.now result }
     {
         let mut draft = Draft::blank();
-        for place in 0..bytes.len() {
-            if !draft.take(bytes[place]) {
-                return Err(Misspelled { place });
-            }
+        for (place, byte) in bytes.iter().enumerate() {
+            draft.take(*byte).map_err(|_| Misspelled { place })?;
         }
-        match finished(&draft) {
-            Some(terms) => Ok(terms),
-            None => Err(Misspelled { place: bytes.len() }),
-        }
+        draft.finished().ok_or(Misspelled { place: bytes.len() })
     }
 }
 
@@ -42,26 +36,3 @@ impl fmt::Display for Misspelled {
 }
 
 impl Error for Misspelled {}
-
-// The terms of a draft, unless it waits for a letter after a comma.
-fn finished(draft: &Draft) -> Option<TermList>
-    ensures { Finished (done_of draft.now) (current_of draft.now) result }
-{
-    if draft.current > 0 {
-        let mut lengths = draft.lengths;
-        lengths[draft.count] = draft.current;
-        return Some(TermList {
-            count: draft.count + 1,
-            lengths,
-            letters: draft.letters,
-        });
-    }
-    if draft.count > 0 {
-        return None;
-    }
-    Some(TermList {
-        count: 0,
-        lengths: draft.lengths,
-        letters: draft.letters,
-    })
-}

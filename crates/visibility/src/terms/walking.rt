@@ -49,22 +49,21 @@ impl Rule for TermList {
             return Row::empty();
         }
         let mut all = Row::empty();
-        for i in 0..self.count {
-            all = all.union(reach(self, i, outline, seen, a));
+        for term in self.terms.iter() {
+            all = all.union(reach(term, outline, seen, a));
         }
         all.intersection(Row::below(count))
     }
 }
 
-// What the steps of term `i` join `a` to.
-fn reach(terms: &TermList, i: usize, outline: &Outline, seen: Table<'_>, a: usize) -> Row
-    requires term { i < terms.now.count }
-    requires low { a < 256 }
-    ensures { (b : ℕ) → Decides (member result b) (Walk (shapes_of outline.now) (related seen.entry.words.now) (term_of terms.now i) a b) }
+// What the steps by some letters join `a` to.
+fn reach(letters: &[Letter], outline: &Outline, seen: Table<'_>, a: usize) -> Row
+    requires { a < 256 }
+    ensures { (b : ℕ) → Decides (member result b) (Walk (shapes_of outline.now) (related seen.entry.words.now) letters.now a b) }
 {
     let mut reached = Row::of(a);
-    for j in 0..terms.lengths[i] {
-        reached = step(terms.letters[4 * i + j], outline, seen, reached);
+    for letter in letters {
+        reached = step(*letter, outline, seen, reached);
     }
     reached
 }

@@ -19,11 +19,8 @@ loop-preserved g c =
     let r = c.round.ensures in
     (r.long, (λ a b h. r.holds a b (c.loop.invariant.1 a b h)), λ S i d. r.within S (c.loop.invariant.2 S i d) d)
 
-pub returns-after-loop : goal.returns-after-loop
-returns-after-loop g c =
+pub returns-after-loop-clause-least : goal.returns-after-loop-clause-least
+returns-after-loop-clause-least g c = λ _.
     let f = shapes_of c.args.outline.now in
-    record {
-      least = λ _. grown_least (Asked (g.R.Rule.demands c.args.rule.now) f) (length f) (λ Q a b d. d.first) c.args.table.now c.loop.table c.round.new.table c.round.result
-          c.loop.invariant.1 c.loop.invariant.2 c.round.ensures c.loop-test.false;
-      unfit = λ n. absurd (n (omega arith));
-    }
+    grown_least (Asked (g.R.Rule.demands c.args.rule.now) f) (length f) (λ Q a b d. d.first) c.args.table.now c.loop.table c.round.new.table c.round.result
+    c.loop.invariant.1 c.loop.invariant.2 c.round.ensures c.loop-test.false

@@ -1,16 +1,10 @@
-use Rattle.std.proofs.Common.{refl, ◌∙◌}
+use Rattle.std.proofs.Common.{◌∙◌}
 use Rattle.std.proofs.lemmas.Bool.Decides.{not_from_Decides}
 use Rattle.rows.specs.Members.{member}
 use Rattle.visibility.specs.Shapes.{shapes_of}
 use Rattle.visibility.specs.Visible.{Asked}
-use Rattle.visibility.proofs.Rounds.{row_same, row_grown}
+use Rattle.visibility.proofs.Rounds.{row_grown}
 use Rattle.visibility.proofs.growing.grow_row.Goals as goal
-
-pub returns-then-same : goal.returns-then-same
-returns-then-same g c =
-    row_same (Asked (g.R.Rule.demands c.args.rule.now) (shapes_of c.args.outline.now)) c.args.a c.args.table.now (member c.row-old.result)
-    (member c.demanded.result) (member c.union-new.result) c.requires.low c.requires.long c.row-old.ensures c.demanded.ensures c.union-new.ensures
-    (c.if-same.ensures.0 refl)
 
 pub returns : goal.returns
 returns g c =

@@ -1,4 +1,4 @@
-use Rattle.std.proofs.Common.{subst, arith}
+use Rattle.std.proofs.Common.{subst}
 use Rattle.recording.specs.Telling.{recorded}
 use Rattle.rows.specs.Members.{related}
 use Rattle.visibility.specs.Growth.{Least}
@@ -6,12 +6,9 @@ use Rattle.visibility.specs.Visible.{Asked}
 use Rattle.visibility.proofs.Leasts.{is_least}
 use Rattle.visibility.proofs.least.least_visibility.Goals as goal
 
-pub returns-then-table-eq1024 : goal.returns-then-table-eq1024
-returns-then-table-eq1024 g c =
+pub returns-then-table-eq1024-clause-least : goal.returns-then-table-eq1024-clause-least
+returns-then-table-eq1024-clause-least g c = λ _.
     let D = g.R.Rule.demands c.args.rule.now in
     let ops = (recorded c.args.recording.now).operations in
-    let grown = subst (λ f. Least (Asked D f) (related c.put_sources.new.table) (related c.grow.new.table)) c.of.ensures (c.grow.ensures.least c.put_sources.ensures.long) in
-    record {
-      least = λ _. is_least D (g.met.R.Rule.grows c.args.rule.now) ops c.put_sources.new.table (related c.grow.new.table) c.put_sources.ensures grown;
-      unfit = λ n. absurd (n (omega arith));
-    }
+    let grown = subst (λ f. Least (Asked D f) (related c.put_sources.new.table) (related c.grow.new.table)) c.from.ensures (c.grow.ensures.least c.put_sources.ensures.long) in
+    is_least D (g.met.R.Rule.grows c.args.rule.now) ops c.put_sources.new.table (related c.grow.new.table) c.put_sources.ensures grown

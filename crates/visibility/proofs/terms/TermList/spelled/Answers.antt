@@ -1,38 +1,30 @@
-use Rattle.std.proofs.Common.{◌≡◌, length, get_or, take, sym, ap, ◌∙◌, subst, arith}
+use Rattle.std.proofs.Common.{rules, ◌≡◌, length, take, ap, sym, ◌∙◌, subst, arith}
 use lib.Seq.{take-length}
-use Rattle.std.proofs.lemmas.List.{take_more}
 use Rattle.visibility.specs.Drafts.{done_of, current_of}
+use Rattle.visibility.specs.Reading.{SpellingAnswer}
 use Rattle.visibility.proofs.Spelled.{Drafted}
-use Rattle.visibility.proofs.Readings.{taken_on, refused_fatal, finished_spelled, misspelt_at, misspelt_end}
+use Rattle.visibility.proofs.Readings.{taken_at, refused_at, answered}
 use Rattle.visibility.proofs.terms.TermList.spelled.Goals as goal
 
-pub returns-then-not-take : goal.returns-then-not-take
-returns-then-not-take c =
+pub returns-in_err-map_err : goal.returns-in_err-map_err
+returns-in_err-map_err c =
     let d = c.loop-place.draft in
     let e = c.take.new.self in
-    let bytes = c.args.bytes.now in
-    misspelt_at bytes c.loop-place.place (done_of d) (current_of d) c.loop-place-test.true c.loop-place.invariant
-    (refused_fatal (done_of d) (done_of e) (current_of d) (current_of e) (get_or bytes c.loop-place.place 0) c.if-not-take.ensures)
+    let at = refused_at c.args.bytes.now c.loop-place.place-counter (done_of d) (done_of e) (current_of d) (current_of e) c.loop-place-test.true c.loop-place.invariant
+    c.take.result (search rules) c.take.ensures in
+    search rules
 
 pub loop-place-preserved : goal.loop-place-preserved
 loop-place-preserved c =
     let d = c.loop-place.draft in
     let e = c.take.new.self in
-    let bytes = c.args.bytes.now in
-    let place = c.loop-place.place in
-    subst (λ l. Drafted l (done_of e) (current_of e)) (sym (take_more bytes place 0 c.loop-place-test.true))
-    (taken_on (take place bytes) (done_of d) (done_of e) (current_of d) (current_of e) (get_or bytes place 0) c.loop-place.invariant c.if-not-take.ensures)
+    taken_at c.args.bytes.now c.loop-place.place-counter (done_of d) (done_of e) (current_of d) (current_of e) c.loop-place-test.true c.loop-place.invariant
+    c.take.result (search rules) c.take.ensures
 
-pub returns-in-Some : goal.returns-in-Some
-returns-in-Some c =
+pub returns : goal.returns
+returns c =
     let d = c.loop-place.draft in
     let bytes = c.args.bytes.now in
-    let all : c.loop-place.place ≡ length bytes = omega arith in
-    finished_spelled bytes (done_of d) (current_of d) c.in-Some.terms (subst (λ l. Drafted l (done_of d) (current_of d)) (ap (λ n. take n bytes) all ∙ take-length bytes) c.loop-place.invariant) c.in-Some.ensures
-
-pub returns-in-None : goal.returns-in-None
-returns-in-None c =
-    let d = c.loop-place.draft in
-    let bytes = c.args.bytes.now in
-    let all : c.loop-place.place ≡ length bytes = omega arith in
-    misspelt_end bytes (done_of d) (current_of d) (subst (λ l. Drafted l (done_of d) (current_of d)) (ap (λ n. take n bytes) all ∙ take-length bytes) c.loop-place.invariant) c.in-None.ensures
+    let all : c.loop-place.place-counter ≡ length bytes = omega arith in
+    let read = subst (λ l. Drafted l (done_of d) (current_of d)) (ap (λ n. take n bytes) all ∙ take-length bytes) c.loop-place.invariant in
+    subst (SpellingAnswer bytes) (sym c.ok_or.ensures.value) (answered bytes (done_of d) (current_of d) read c.finished.result c.finished.ensures)

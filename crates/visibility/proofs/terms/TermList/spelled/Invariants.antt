@@ -4,4 +4,4 @@ use Rattle.visibility.proofs.Spelled.{Drafted}
 use Rattle.visibility.proofs.terms.TermList.spelled.Given as goal
 
 abbrev pub invariant-loop-place : goal.invariant-loop-place
-invariant-loop-place l = Drafted (take l.place l.bytes) (done_of l.draft) (current_of l.draft)
+invariant-loop-place l = Drafted (take l.place-counter l.bytes) (done_of l.draft) (current_of l.draft)
