@@ -108,7 +108,7 @@ size_none P (suc n) e = omega (arith, size_none P n e, ap one_if (e n))
 
 -- ---- the numbers in two parts
 
-size_split : (P : ℕ → Bool) (m d : ℕ) → size P (m + d) ≡ size P m + size (λ i. P (m + i)) d
+pub size_split : (P : ℕ → Bool) (m d : ℕ) → size P (m + d) ≡ size P m + size (λ i. P (m + i)) d
 unfolding size
 size_split P m zero = ap (size P) (add-zero m) ∙ omega arith
 size_split P m (suc d) = ap (size P) (add-suc m d) ∙ omega (arith, size_split P m d)
