@@ -6,5 +6,5 @@ use Rattle.sessions.proofs.station_view.StationView.put_happened.Goals as goal
 pub returns-then-table-eq1024-clause-happened : goal.returns-then-table-eq1024-clause-happened
 returns-then-table-eq1024-clause-happened c =
     let view = c.args.self.view in
-    let grown = rw c.of-then-table-eq1024.ensures at (c.grow.ensures.least c.put_past.ensures.long) in
+    let grown = rw c.from.ensures at (c.grow.ensures.least c.put_past.ensures.long) in
     λ g. happened_before (operations_of view) (seen_of view) c.args.self.last g.inside g.within c.of.result.words c.put_past.new.table c.of.ensures c.put_past.ensures (related c.grow.new.table) grown
