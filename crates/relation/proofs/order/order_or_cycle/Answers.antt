@@ -1,4 +1,4 @@
-use Rattle.std.proofs.Common.{◌≡◌, ◌≤◌, length, sym, ap, ◌∙◌, subst, arith, rules}
+use Rattle.std.proofs.Common.{length, sym, ap, ◌∙◌, subst, arith, rules}
 use Rattle.rows.specs.Members.{member}
 use Rattle.relation.specs.Orders.{Ordered, Ring}
 use Rattle.relation.proofs.Cycles.{ordered_acyclic, ring_cycle}
