@@ -23,6 +23,7 @@ impl Table<'_> {
     pub fn row(self, a: usize) -> Row
         ensures { (b : ℕ) → member result b ≡ related self.entry.words.now a b }
     {
+        // Word by word, as a copy of the four as a slice takes half as long again.
         if a < 256 {
             Row {
                 words: [
