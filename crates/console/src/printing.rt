@@ -31,7 +31,11 @@ pub fn print_answer(
 /// All operations, and for each read its source.
 pub fn print_operations(rt: &impl Print, recording: &Recording) -> io::Result<()> {
     let operations = recording.operations();
-    println!(rt; "{} operations, stations {}:", operations.len(), recording.stations())?;
+    println!(rt;
+        "{} operations, stations {}:",
+        operations.len(),
+        recording.stations()
+    )?;
     for (number, operation) in operations.iter().enumerate() {
         print!(rt; "{number}: {operation}")?;
         match recording.source(number) {

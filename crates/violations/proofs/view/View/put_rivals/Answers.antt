@@ -21,12 +21,11 @@ loop-other-preserved c =
     let gone : member c.next.new.self.left o ≡ false = search rules in
     let rival : member c.into_iter-other-iterator.result.left o ≡ true = search rules in
     let here : (w : ℕ) → related c.put_row.new.table o w ≡ (related c.loop-other.table o w || eqb w s) =
-      λ w. c.put_row.ensures.here (search rules) (search rules) w ∙ c.with-row.ensures.inside low w ∙ ap (λ b. b || eqb w s) (c.row.ensures w) in
+    λ w. c.put_row.ensures.here (search rules) (search rules) w ∙ c.with-row.ensures.inside low w ∙ ap (λ b. b || eqb w s) (c.row.ensures w) in
     let at_other : (w : ℕ) → related c.put_row.new.table o w ≡ (related c.args.table.now o w || (eqb w s && (member c.into_iter-other-iterator.result.left o && not (member c.next.new.self.left o)))) =
-      λ w. rw (here w, before o w, there, gone, rival) (added_once (related c.args.table.now o w) (eqb w s)) in
+    λ w. rw (here w, before o w, there, gone, rival) (added_once (related c.args.table.now o w) (eqb w s)) in
     let elsewhere : (x w : ℕ) → ¬ (x ≡ o) → related c.put_row.new.table x w ≡ (related c.args.table.now x w || (eqb w s && (member c.into_iter-other-iterator.result.left x && not (member c.next.new.self.left x)))) =
-      λ x w n. let e = ne_eqb x o n in let same : member c.next.new.self.left x ≡ member c.loop-other.other-iterator.left x = search rules in rw (c.put_row.ensures.others x w n, before x w, same) refl in
-    (
+    λ x w n. let e = ne_eqb x o n in let same : member c.next.new.self.left x ≡ member c.loop-other.other-iterator.left x = search rules in rw (c.put_row.ensures.others x w n, before x w, same) refl in (
       search rules,
       λ x w. elim (cases_eq x o) [ inl e ↦ subst (λ y. related c.put_row.new.table y w ≡ (related c.args.table.now y w || (eqb w s && (member c.into_iter-other-iterator.result.left y && not (member c.next.new.self.left y))))) (sym e) (at_other w) | inr n ↦ elsewhere x w n ],
       search rules,
