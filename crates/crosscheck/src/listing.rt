@@ -50,6 +50,7 @@ impl Search<'_> {
         if steps == 0 {
             return false;
         }
+        // A loop, since a call of itself inside the closure of `any` would want three measures.
         for next in (0..16).filter_map(|a| self.listed(state, a)) {
             if self.lists(next, steps - 1) {
                 return true;

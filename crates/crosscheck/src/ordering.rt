@@ -65,6 +65,7 @@ fn factorial(count: usize) -> usize {
 // The order of a code: its digits, in bases that fall by one, say which of the writes that are left comes next.
 fn order_of(code: usize, mut writes: ArrayVec<usize, 6>) -> ArrayVec<usize, 6> {
     let mut rest = code;
+    // The place itself is swapped with a later one, so it is counted.
     for place in 0..writes.len() {
         let left = writes.len() - place;
         writes.swap(place, place + rest % left);

@@ -30,6 +30,7 @@ impl Pairs {
     }
 
     /// Whether no steps lead from a number to itself.
+    // The numbers themselves are what the loops are about: `reached` changes while they run, so it is not iterated over.
     pub fn is_acyclic(&self) -> bool {
         let mut reached = *self;
         for c in 0..16 {

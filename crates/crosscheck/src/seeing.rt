@@ -42,6 +42,7 @@ fn add_demanded<F: Fn(&Recording, &Pairs, usize, usize) -> bool>(
     requires { F.IsAlwaysCallable demands.now }
 {
     let mut new = false;
+    // Loops, since `seen` changes while they run.
     for a in 0..recording.count() {
         for b in 0..recording.count() {
             if !seen.has(a, b) && demands(recording, seen, a, b) {

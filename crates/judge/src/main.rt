@@ -48,6 +48,7 @@ fn run(rt: &(impl Env + Input + Print + AllocGlobal)) -> anyhow::Result<()> {
     };
     let mut recording = Recording::unstarted();
     let mut steps = Vec::new(rt.alloc());
+    // The loop stands in both programs: a function round it would take a closure that prints, keeps and fails in each one's way.
     for (number, text) in (1..=u64::MAX).zip(rt.lines(rt.alloc())) {
         match text {
             Ok(text) => tell_line(rt, &mut recording, &mut steps, number, text.as_str())?,

@@ -66,6 +66,7 @@ impl Error for Violation {}
 
 impl Verdict {
     /// The fixed number of the violation, or 0 for explained.
+    // A match, since explained has a number and is no violation.
     pub fn number(self) -> u8
         ensures { result ≡ finding_number self.violation }
     {

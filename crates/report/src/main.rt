@@ -22,6 +22,7 @@ fn tell_line(
 
 fn run(rt: &(impl Input + Print + Alloc)) -> io::Result<()> {
     let mut recording = Recording::unstarted();
+    // The loop stands in both programs: a function round it would take a closure that prints, keeps and fails in each one's way.
     for (number, text) in (1..=u64::MAX).zip(rt.lines(rt.alloc())) {
         match text {
             Ok(text) => tell_line(rt, &mut recording, number, text.as_str())?,

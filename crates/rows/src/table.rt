@@ -1,5 +1,18 @@
 //! Tables of pairs: 1,024 words of 64 bits that the caller supplies, a row of four words for each number.
-ghost use Rattle.std.specs.Prelude.{◌≡◌, ℕ, ◌<◌, ◌≤◌, true, false, length, replicate, ◌≢◌};
+ghost use Rattle.std.specs.Prelude.{
+  ◌≡◌,
+  ℕ,
+  ◌<◌,
+  ◌≤◌,
+  true,
+  false,
+  length,
+  replicate,
+  ◌≢◌,
+  ◌==◌,
+  ◌&&◌,
+  ◌||◌,
+};
 ghost use Rattle.rows.specs.Members.{member, related};
 
 use crate::row::Row;
@@ -53,6 +66,20 @@ pub fn put_row(table: &mut [u64], a: usize, row: Row)
         table[4 * a + 1] = row.words[1];
         table[4 * a + 2] = row.words[2];
         table[4 * a + 3] = row.words[3];
+    }
+}
+
+/// Relates `a` to `b` as well. Where one of them is above 255, or the words are not 1,024, nothing changes.
+pub fn put_pair(table: &mut [u64], a: usize, b: usize)
+    ensures pair { length table.old ≡ 1024 → a < 256 → b < 256 → (x y : ℕ) → related table.new x y ≡ (related table.old x y || (x == a && y == b)) }
+    ensures long { length table.new ≡ length table.old }
+    ensures above { 256 ≤ a → table.new ≡ table.old }
+    ensures beyond { 256 ≤ b → table.new ≡ table.old }
+    ensures unfit { length table.old ≢ 1024 → table.new ≡ table.old }
+{
+    if table.len() == 1024 && a < 256 && b < 256 {
+        let row = Table { words: table }.row(a).with(b);
+        put_row(table, a, row);
     }
 }
 

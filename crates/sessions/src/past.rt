@@ -29,7 +29,7 @@ impl StationView<'_, '_> {
         }
     }
 
-    // Makes the table hold what is seen among `last` and all that it sees, and nothing else.
+    // Requires the length, as the growth that comes after it does. Makes the table hold what is seen among `last` and all that it sees, and nothing else.
     fn put_past(self, table: &mut [u64])
         requires { length table.old ≡ 1024 }
         ensures { PastTable (operations_of self.entry.view) (seen_of self.entry.view) self.entry.last table.new }

@@ -14,6 +14,7 @@ impl StationView<'_, '_> {
     pub fn hb_init_read(self) -> Option<Pair>
         ensures { SmallestPair (HbInitRead (operations_of self.entry.view) self.entry.last (seen_of self.entry.view)) result }
     {
+        // Written as `bad_init_read` is, whose loops the project fixes, and not as one more function with it.
         let recording = self.view.recording;
         for read in 0..recording.count() {
             if is_station_read(recording, self.last, read) && is_initial_read(recording, read) {

@@ -4,7 +4,7 @@ ghost use Rattle.violations.specs.Tabled.{Tabled};
 ghost use Rattle.violations.specs.Views.{operations_of, seen_of};
 
 use crate::view::View;
-use rows::{Table, clear, put_row};
+use rows::{clear, put_pair};
 
 impl View<'_, '_> {
     /// Makes a table of 1,024 words hold (x, w) for each conflict, and nothing else. Words of another length are left as they are.
@@ -30,8 +30,7 @@ impl View<'_, '_> {
         };
         let rivals = self.rivals_of(read, source);
         for other in rivals.members() {
-            let row = Table { words: table }.row(other).with(source);
-            put_row(table, other, row);
+            put_pair(table, other, source);
         }
     }
 }

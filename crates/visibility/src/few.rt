@@ -13,6 +13,7 @@ pub(crate) struct Few<T, const N: usize> {
     ghost room: { length items ≡ N },
 }
 
+// By hand, since a derive is refused over a ghost field with a type parameter.
 impl<T: Copy, const N: usize> Clone for Few<T, N> {
     ghost is_clone = { λ x y. y ≡ x };
 

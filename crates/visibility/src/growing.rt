@@ -42,7 +42,7 @@ fn round<R: Rule>(rule: &R, outline: &Outline, table: &mut [u64]) -> bool
     changed
 }
 
-// Adds to row `a` what is demanded of it, and says whether that was anything new.
+// Adds to row `a` what is demanded of it, and says whether that was anything new. Requires the length for the sake of `round`.
 fn grow_row<R: Rule>(rule: &R, outline: &Outline, table: &mut [u64], a: usize) -> bool
     requires long { length table.old ≡ 1024 }
     requires low { a < 256 }

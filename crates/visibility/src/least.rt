@@ -8,7 +8,7 @@ use crate::growing::grow;
 use crate::outline::Outline;
 use crate::rule::Rule;
 use recording::Recording;
-use rows::{Table, clear, put_row};
+use rows::{clear, put_pair};
 
 /// Makes a table of 1,024 words the least visibility of the recording under the rule, pair for pair.
 /// Words of another length are left as they are.
@@ -39,7 +39,6 @@ fn put_source(recording: &Recording, table: &mut [u64], read: usize)
     ensures { Sources (recorded recording.now).operations (read + 1) table.new }
 {
     if let Ok(Some(write)) = recording.source(read) {
-        let row = Table { words: table }.row(write).with(read);
-        put_row(table, write, row);
+        put_pair(table, write, read);
     }
 }

@@ -9,7 +9,7 @@ mod making;
 mod reading;
 
 /// An operation without its value.
-#[derive(Clone, Copy)]
+#[derive(Clone, Copy, Default)]
 pub struct Shape {
     pub kind: Kind,
     pub station: u8,

@@ -23,6 +23,7 @@ pub trait Rule {
         ensures { Decides result (Asked (demands self.now) (shapes_of outline.now) (related seen.entry.words.now) a b) };
 
     /// The rule's label, 0 to 255.
+    // A number and no enum: whoever writes a rule gives it a label of their own.
     fn label(&self) -> u8
         ensures { result ≡ known self.now };
 

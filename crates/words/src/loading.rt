@@ -26,6 +26,7 @@ pub enum LoadRefusal {
     Recording { refusal: Refusal, place: usize },
 }
 
+// Its numbers are matched, since variants that hold something have no discriminants.
 impl LoadRefusal {
     /// The layer that refuses: 0 the load itself, 1 the reader, 2 the recording.
     pub fn layer(self) -> u8

@@ -32,6 +32,7 @@ impl Rule for Happening {
     fn demanded(&self, outline: &Outline, seen: Table<'_>, a: usize) -> Row {
         let count = outline.count();
         if a < count {
+            // As in the causal rule: what both say is this line.
             let through = image(&seen, seen.row(a)).intersection(Row::below(count));
             self.derived(outline, seen, a).union(through)
         } else {

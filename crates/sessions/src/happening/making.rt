@@ -6,7 +6,7 @@ ghost use Rattle.sessions.specs.Deriving.{Readers};
 use crate::happening::Happening;
 use crate::stations::is_station_read;
 use recording::Recording;
-use rows::{Table, put_row};
+use rows::put_pair;
 
 impl Happening {
     /// The reads of the station of operation `last` that have a source.
@@ -28,8 +28,7 @@ fn put_reader(recording: &Recording, last: usize, words: &mut [u64], read: usize
 {
     if is_station_read(recording, last, read) {
         if let Ok(Some(source)) = recording.source(read) {
-            let row = Table { words }.row(source).with(read);
-            put_row(words, source, row);
+            put_pair(words, source, read);
         }
     }
 }

@@ -1,24 +1,11 @@
 //! How an outline is made of a recording.
 ghost use Rattle.std.specs.Prelude.{◌≡◌, ◌≤◌, map, length};
 ghost use Rattle.recording.specs.Telling.{recorded};
-ghost use Rattle.visibility.specs.Shapes.{shapes_of, shape, no_shape};
+ghost use Rattle.visibility.specs.Shapes.{shapes_of, shape};
 
 use crate::outline::{Outline, Shape};
 use arrayvec::ArrayVec;
-use recording::{Kind, Operation, Recording};
-
-// What an unused place of an outline holds.
-impl Default for Shape {
-    ghost is_default = { λ x. x ≡ no_shape };
-
-    fn default() -> Shape {
-        Shape {
-            kind: Kind::Write,
-            station: 0,
-            register: 0,
-        }
-    }
-}
+use recording::{Operation, Recording};
 
 impl From<Operation> for Shape {
     ghost from_gives = { λ operation x. x ≡ shape operation };

@@ -22,6 +22,7 @@ impl TermList {
 
 impl Misspelled {
     /// The fixed number of the ground.
+    // A literal, since a struct has no discriminant, and an enum of one case would stand round the place for nothing.
     pub fn number(self) -> u8
         ensures { result ≡ 15 }
     {
