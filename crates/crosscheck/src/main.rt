@@ -104,7 +104,7 @@ fn print_tally(rt: &HostRuntime, name: &str, tally: Tally) -> io::Result<()> {
     print!(rt; "{name}:")?;
     for count in &tally.counts {
         if count.times > 0 {
-            print!(rt; " {} {}", count.name(), count.times)?;
+            print!(rt; " {count}")?;
         }
     }
     println!(rt; "")?;

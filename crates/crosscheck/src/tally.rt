@@ -1,5 +1,6 @@
 //! How often each verdict came.
 use judgement::Violation;
+use std::fmt;
 
 /// How often a recording was explained, or a violation was named.
 #[derive(Clone, Copy)]
@@ -47,18 +48,11 @@ impl Tally {
     }
 }
 
-impl Count {
-    /// What the verdict is called.
-    pub fn name(self) -> &'static str {
+impl fmt::Display for Count {
+    fn fmt<W: fmt::Write>(&self, f: &mut fmt::Formatter<W>) -> fmt::Result {
         match self.verdict {
-            None => "explained",
-            Some(Violation::ThinAir) => "thinair",
-            Some(Violation::BadVisibility) => "badvisibility",
-            Some(Violation::BadInitRead) => "badinitread",
-            Some(Violation::BadRead) => "badread",
-            Some(Violation::BadArb) => "badarb",
-            Some(Violation::HbInitRead) => "hbinitread",
-            Some(Violation::CyclicHb) => "cyclichb",
+            Some(violation) => write!(f, "{violation} {}", self.times),
+            None => write!(f, "explained {}", self.times),
         }
     }
 }
