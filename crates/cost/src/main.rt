@@ -9,6 +9,7 @@ use std::cell::Cell;
 use std::io;
 
 // Relates each number to the next one, and counts how often a row is asked for.
+#[derive(Drop)]
 struct Chain {
     asked: Cell<u64>,
 }
@@ -30,7 +31,6 @@ fn print_cost(rt: &HostRuntime, n: usize) -> io::Result<()> {
     let mut out = [0u16; 256];
     let found = order_or_cycle(&chain, Row::below(n), &mut out);
     let asked = chain.asked.get();
-    let Chain { asked: _ } = chain;
     match found {
         Ok(count) => println!(rt; "{count} members in order: {asked} rows asked"),
         Err(Obstacle::Cycle(count)) => println!(rt; "a cycle of {count}: {asked} rows asked"),

@@ -11,6 +11,8 @@ use recording::Recording;
 use visibility::Rule;
 use words::{Call, told};
 
+// The three lent slices stay apart, as the judgements take them.
+
 /// Tells the calls to a recording that begins unstarted, and answers the question about it. The session judgement and the order
 /// for a station do not ask the rule.
 pub fn examine<R: Rule>(

@@ -1,4 +1,4 @@
-//! Judgements of recordings: own, shared, and the order for a read.
+//! Judgements of recordings: own, shared and session; the order for a read, and the listing of a station.
 #![tactic(auto)]
 
 mod arbitration;

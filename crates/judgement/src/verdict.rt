@@ -66,14 +66,10 @@ impl Error for Violation {}
 
 impl Verdict {
     /// The fixed number of the violation, or 0 for explained.
-    // A match, since explained has a number and is no violation.
     pub fn number(self) -> u8
         ensures { result ≡ finding_number self.violation }
     {
-        match self.violation {
-            Some(violation) => violation.number(),
-            None => 0,
-        }
+        self.violation.map_or(0, |violation| violation.number())
     }
 }
 

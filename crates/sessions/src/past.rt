@@ -29,7 +29,8 @@ impl StationView<'_, '_> {
         }
     }
 
-    // Requires the length, as the growth that comes after it does. Makes the table hold what is seen among `last` and all that it sees, and nothing else.
+    // Makes the table hold what is seen among `last` and all that it sees, and nothing else. Requires the length, as
+    // `put_happened` holds the slice that it lends to the growth.
     fn put_past(self, table: &mut [u64])
         requires { length table.old ≡ 1024 }
         ensures { PastTable (operations_of self.entry.view) (seen_of self.entry.view) self.entry.last table.new }

@@ -5,7 +5,7 @@ ghost use Rattle.violations.specs.Views.{operations_of, seen_of};
 ghost use Rattle.sessions.specs.Happening.{HbInitRead, CyclicHb};
 
 use crate::station_view::StationView;
-use crate::stations::{is_station_read, station_reads};
+use crate::stations::station_reads;
 use rows::Row;
 use violations::{Pair, Rivals, View, is_initial_read};
 
@@ -14,10 +14,9 @@ impl StationView<'_, '_> {
     pub fn hb_init_read(self) -> Option<Pair>
         ensures { SmallestPair (HbInitRead (operations_of self.entry.view) self.entry.last (seen_of self.entry.view)) result }
     {
-        // Written as `bad_init_read` is, whose loops the project fixes, and not as one more function with it.
         let recording = self.view.recording;
-        for read in 0..recording.count() {
-            if is_station_read(recording, self.last, read) && is_initial_read(recording, read) {
+        for read in station_reads(recording, self.last).members() {
+            if is_initial_read(recording, read) {
                 if let Some(write) = first_before(self.view, read) {
                     return Some(Pair { read, write });
                 }

@@ -24,7 +24,7 @@ pub fn is_station_read(recording: &Recording, other: usize, number: usize) -> bo
     })
 }
 
-// The station of an operation; 0 where there is none of that number.
+// The station of an operation, by one call of std, as the register is in `violations`; 0 where there is none of that number.
 fn station_of(recording: &Recording, number: usize) -> u8
     ensures { result ≡ (at (recorded recording.now).operations number).station }
 {

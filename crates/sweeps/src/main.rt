@@ -2,7 +2,7 @@
 #![tactic(auto)]
 
 use recording::Recording;
-use rows::{Row, put_row};
+use rows::put_pair;
 use std::io;
 use std::time::Instant;
 use visibility::{Causal, Late, Outline, Rule, TermList, sweep};
@@ -20,20 +20,23 @@ fn chain(operations: u32) -> Recording {
     recording
 }
 
-// Puts the pair of each read and its source; no write is read twice.
+// Puts the pair of each read and its source.
 fn put_sources(recording: &Recording, words: &mut [u64]) {
     for read in 0..recording.count() {
         if let Ok(Some(write)) = recording.source(read) {
-            put_row(words, write, Row::of(read));
+            put_pair(words, write, read);
         }
     }
 }
 
+// One sweep more than there are pairs to find.
+const MOST_SWEEPS: usize = 65537;
+
 // How many sweeps it takes until one finds nothing new.
 fn count_sweeps<R: Rule>(rule: &R, outline: &Outline, words: &mut [u64]) -> usize {
-    (1..65537)
+    (1..MOST_SWEEPS)
         .find(|_| !sweep(rule, outline, words))
-        .unwrap_or(65537)
+        .unwrap_or(MOST_SWEEPS)
 }
 
 // Grows the visibility under a rule, and prints what it cost.

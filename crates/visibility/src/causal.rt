@@ -4,8 +4,8 @@ ghost use Rattle.std.proofs.Common.{rules};
 
 use crate::outline::Outline;
 use crate::rule::Rule;
+use relation::Relation;
 use relation::image::image;
-use relation::pairs::Relation;
 use rows::{Row, Table};
 
 const LABEL: u8 = 1;
@@ -32,6 +32,7 @@ impl Rule for Causal {
     fn demanded(&self, outline: &Outline, seen: Table<'_>, a: usize) -> Row {
         let count = outline.count();
         if a < count {
+            // `Happening` of the sessions differs in one operand, and says why it stands apart.
             let through = image(&seen, seen.row(a)).intersection(Row::below(count));
             outline.later(a).union(through)
         } else {

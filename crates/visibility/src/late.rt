@@ -41,6 +41,7 @@ impl Rule for Late {
 
     fn demanded(&self, outline: &Outline, _seen: Table<'_>, a: usize) -> Row {
         let mut later = outline.later(a).members();
+        // Not by `skip`, since what is wanted is the set that is left.
         for _ in 1..self.distance {
             later.next();
         }

@@ -22,7 +22,8 @@ pub fn least_visibility<R: Rule>(recording: &Recording, rule: &R, table: &mut [u
     }
 }
 
-// Makes the table hold (source, read) for each read with a source, and nothing else.
+// Makes the table hold (source, read) for each read with a source, and nothing else. Requires the length, as
+// `least_visibility` holds the slice that it lends to the growth.
 fn put_sources(recording: &Recording, table: &mut [u64])
     requires { length table.old ≡ 1024 }
     ensures { Sources (recorded recording.now).operations (length (recorded recording.now).operations) table.new }

@@ -76,7 +76,7 @@ pub fn told(calls: &[Call<'_>]) -> Recording
     recording
 }
 
-// Hands a call on to the recording.
+// Hands a call on to the recording; apart from `tell`, whose second clause follows from what this answers.
 fn hand_on(recording: &mut Recording, call: Call<'_>) -> Result<Answer, CallRefusal>
     ensures { Answers (recorded recording.old) call.entry result (recorded recording.new) }
 {

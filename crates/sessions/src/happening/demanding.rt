@@ -7,8 +7,8 @@ ghost use Rattle.std.proofs.Common.{rules};
 
 use crate::happening::Happening;
 use recording::Kind;
+use relation::Relation;
 use relation::image::image;
-use relation::pairs::Relation;
 use rows::{Row, Table};
 use visibility::{Outline, Rule};
 
@@ -32,7 +32,7 @@ impl Rule for Happening {
     fn demanded(&self, outline: &Outline, seen: Table<'_>, a: usize) -> Row {
         let count = outline.count();
         if a < count {
-            // As in the causal rule: what both say is this line.
+            // The causal rule differs in one operand; a function of both would take it as a closure, and be no plainer.
             let through = image(&seen, seen.row(a)).intersection(Row::below(count));
             self.derived(outline, seen, a).union(through)
         } else {
