@@ -64,6 +64,7 @@ fn order_writes(view: View<'_, '_>, read: usize, evidence: &mut [u16; NUMBERS]) 
     ensures { OrderedFor (operations_of view.entry) (seen_of view.entry) read result evidence.old evidence.new }
 {
     let mask = writes(view.recording);
+    // Built as in `arbitrate`, with another part beside: a function would only wrap the two literals.
     let kept = Union {
         one: Narrowed {
             relation: view.seen,
