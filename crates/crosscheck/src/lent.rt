@@ -4,6 +4,7 @@ use recording::Recording;
 use visibility::Rule;
 
 /// Two tables and a buffer of the right lengths.
+// The program `judge` lends the same; the two share nothing, since this one checks what that one asks.
 #[derive(Drop)]
 pub struct Lent {
     seen: [u64; 1024],
