@@ -1,5 +1,5 @@
 -- What the operations on rows and tables do to each member.
-use Rattle.std.proofs.Common.{◌≡◌, ℕ, zero, suc, ◌+◌, ◌-◌, ◌*◌, ◌/◌, ◌%◌, ◌^◌, ◌<◌, ◌≤◌, min, Bool, true, false, not, ◌&&◌, ◌||◌, eqb, ltb, List, [], ◌∷◌, length, get_or, set, replicate, Some, None, subst, sym, refl, ap, ◌∙◌, inl, inr, arith}
+use Rattle.std.proofs.Common.{◌≡◌, ℕ, ◌+◌, ◌-◌, ◌*◌, ◌/◌, ◌%◌, ◌^◌, ◌<◌, ◌≤◌, min, Bool, true, false, not, ◌&&◌, ◌||◌, eqb, ltb, List, [], ◌∷◌, length, get_or, set, replicate, Some, None, subst, sym, refl, ap, ◌∙◌, inl, inr, arith}
 use lib.Bits.{bit_and, bit_or}
 use lib.Count.{count_trailing_zeros}
 use Rattle.std.proofs.lemmas.Nat.{one_shl, pow_below}
@@ -256,27 +256,12 @@ row_past t a l h k =
 
 -- ---- the numbers below n
 
-at_four : (P : ℕ → Type 0) → P 0 → P 1 → P 2 → P 3 → ((q : ℕ) → 4 ≤ q → P q) → (q : ℕ) → P q
-at_four P a b c d e zero = a
-at_four P a b c d e (suc zero) = b
-at_four P a b c d e (suc (suc zero)) = c
-at_four P a b c d e (suc (suc (suc zero))) = d
-at_four P a b c d e (suc (suc (suc (suc q)))) = e (suc (suc (suc (suc q)))) (omega arith)
-
-pub has_below_n : (n w0 w1 w2 w3 : ℕ) → ((i : ℕ) → i < 64 → bit w0 i ≡ ltb i n) → ((i : ℕ) → i < 64 → bit w1 i ≡ ltb i (n - 64))
-    → ((i : ℕ) → i < 64 → bit w2 i ≡ ltb i (n - 128)) → ((i : ℕ) → i < 64 → bit w3 i ≡ ltb i (n - 192))
-    → (k : ℕ) → has (w0 ∷ w1 ∷ w2 ∷ w3 ∷ []) k ≡ ltb k (min n 256)
+pub has_below_n : (n : ℕ) (ws : List ℕ) → length ws ≡ 4 → ((q : ℕ) → q < 4 → (i : ℕ) → i < 64 → bit (get_or ws q 0) i ≡ ltb i (n - 64 * q)) → (k : ℕ) → has ws k ≡ ltb k (min n 256)
 unfolding has
-has_below_n n w0 w1 w2 w3 e0 e1 e2 e3 k =
-    let ws : List ℕ = w0 ∷ w1 ∷ w2 ∷ w3 ∷ [] in
-    let low : k % 64 < 64 = omega arith in
-    at_four (λ q. k / 64 ≡ q → bit (get_or ws q 0) (k % 64) ≡ ltb k (min n 256))
-    (λ d. e0 (k % 64) low ∙ grind (arith, nat_tests))
-    (λ d. e1 (k % 64) low ∙ grind (arith, nat_tests))
-    (λ d. e2 (k % 64) low ∙ grind (arith, nat_tests))
-    (λ d. e3 (k % 64) low ∙ grind (arith, nat_tests))
-    (λ q h d. ap (λ (x : ℕ). bit x (k % 64)) (get_or_past ws q 0 h) ∙ bit_none (k % 64) ∙ sym (le-ltb k (min n 256) (omega arith)))
-    (k / 64) refl
+has_below_n n ws l e k = elim (cases_lt (k / 64) 4) [
+  | inl h ↦ e (k / 64) h (k % 64) (omega arith) ∙ grind (arith, nat_tests)
+  | inr h ↦ has_past ws 4 k l (omega arith) ∙ sym (le-ltb k (min n 256) (omega arith))
+]
 
 -- ---- a table of zeros
 

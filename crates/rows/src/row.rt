@@ -5,6 +5,7 @@ ghost use Rattle.rows.specs.Members.{bit, member, First, Found};
 ghost use Rattle.rows.specs.Steps.{Next};
 
 use crate::members::Members;
+use std::array;
 
 /// A set of numbers below 256.
 #[derive(Clone, Copy, PartialEq, Eq, Debug)]
@@ -32,12 +33,7 @@ impl Row {
         ensures { (k : ℕ) → member result k ≡ nat_lt k (min n 256) }
     {
         Row {
-            words: [
-                low_bits(n),
-                low_bits(n.saturating_sub(64)),
-                low_bits(n.saturating_sub(128)),
-                low_bits(n.saturating_sub(192)),
-            ],
+            words: array::from_fn(|i| low_bits(n.saturating_sub(64 * i))),
         }
     }
 
@@ -96,12 +92,7 @@ impl Row {
         ensures { (q : ℕ) → q < 4 → F.post operation (slice_index self.words q) (slice_index other.words q) (slice_index result.words q) }
     {
         Row {
-            words: [
-                operation(self.words[0], other.words[0]),
-                operation(self.words[1], other.words[1]),
-                operation(self.words[2], other.words[2]),
-                operation(self.words[3], other.words[3]),
-            ],
+            words: array::from_fn(|i| operation(self.words[i], other.words[i])),
         }
     }
 
@@ -163,6 +154,7 @@ impl Row {
     }
 
     /// The smallest member that a test passes.
+    // A loop: in the iterator's `find` the closure has to say again what the test requires, and lemmas on its steps are needed.
     pub fn find<F: Fn(usize) -> bool>(self, passes: F) -> Option<usize>
         requires { (k : ℕ) → member self k ≡ true → F.pre passes k }
         ensures { Found (member self) (λ k says. F.post passes k says) result }
