@@ -8,7 +8,6 @@ impl Relation for Table<'_> {
     ghost holds = { λ s a b. related s.words.now a b };
 
     fn row(&self, a: usize) -> Row {
-        let table = *self;
-        table.row(a)
+        Table::row(*self, a)
     }
 }
