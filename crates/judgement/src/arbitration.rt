@@ -8,9 +8,8 @@ use crate::lending::NUMBERS;
 use crate::scene::Scene;
 use crate::shown::Shown;
 use crate::verdict::Violation;
-use relation::{Narrowed, Obstacle, Union, order_or_cycle};
+use relation::{Obstacle, Union, order_or_cycle};
 use rows::Table;
-use violations::writes;
 
 impl Scene<'_, '_> {
     // Puts at the front of the evidence an order of all writes that keeps visibility and conflicts, and answers its length;
@@ -23,15 +22,12 @@ impl Scene<'_, '_> {
         requires { Tabled (operations_of self.view) (seen_of self.view) (length (operations_of self.view)) conflicts.words.now }
         ensures { Arbitrated (operations_of self.entry.view) (seen_of self.entry.view) evidence.old evidence.new result }
     {
-        let mask = writes(self.view.recording);
+        let between = self.view.between_writes();
         let kept = Union {
-            one: Narrowed {
-                relation: self.view.seen,
-                mask,
-            },
+            one: between,
             other: conflicts,
         };
-        match order_or_cycle(&kept, mask, evidence) {
+        match order_or_cycle(&kept, between.mask, evidence) {
             Ok(count) => Ok(count),
             Err(Obstacle::Cycle(count)) => Err(Shown {
                 violation: Violation::BadArb,

@@ -12,9 +12,9 @@ use crate::lending::{NUMBERS, WORDS};
 use crate::own::own_verdict;
 use crate::refusal::Refusal;
 use recording::Recording;
-use relation::{Narrowed, Union, order_or_cycle};
+use relation::{Union, order_or_cycle};
 use rows::Table;
-use violations::{View, writes};
+use violations::View;
 use visibility::Rule;
 
 /// Puts an order of all writes that gives the read its value at the front of `evidence`, and answers its length.
@@ -63,14 +63,10 @@ fn order_writes(view: View<'_, '_>, read: usize, evidence: &mut [u16; NUMBERS]) 
     requires { OwnClean (operations_of view) (seen_of view) }
     ensures { OrderedFor (operations_of view.entry) (seen_of view.entry) read result evidence.old evidence.new }
 {
-    let mask = writes(view.recording);
-    // Built as in `arbitrate`, with another part beside: a function would only wrap the two literals.
+    let between = view.between_writes();
     let kept = Union {
-        one: Narrowed {
-            relation: view.seen,
-            mask,
-        },
+        one: between,
         other: view.forced(read),
     };
-    order_or_cycle(&kept, mask, evidence).unwrap()
+    order_or_cycle(&kept, between.mask, evidence).unwrap()
 }

@@ -8,7 +8,7 @@ ghost use Rattle.judgement.specs.Verdicts.{JudgementAnswer, SessionJudged, lent}
 use crate::lending::{NUMBERS, WORDS};
 use crate::refusal::Refusal;
 use crate::scene::Scene;
-use crate::shown::Shown;
+use crate::shown::{Shown, numbers_of};
 use crate::verdict::{Verdict, Violation};
 use recording::Recording;
 use rows::Table;
@@ -76,11 +76,7 @@ impl Scene<'_, '_> {
             Ok(Some(at)) => Err(Shown::put(
                 Violation::CyclicHb,
                 at.station as u8,
-                &[
-                    at.found.read as u16,
-                    at.found.source as u16,
-                    at.found.rival as u16,
-                ],
+                &numbers_of(at.found),
                 evidence,
             )),
             Err(at) => Err(Shown::put(

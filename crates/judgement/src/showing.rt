@@ -5,7 +5,7 @@ ghost use Rattle.judgement.specs.Showing.{OwnSought, Sought};
 
 use crate::lending::NUMBERS;
 use crate::scene::Scene;
-use crate::shown::Shown;
+use crate::shown::{Shown, numbers_of};
 use crate::verdict::Violation;
 use relation::{Obstacle, order_or_cycle};
 use rows::Row;
@@ -73,16 +73,7 @@ impl Scene<'_, '_> {
         ensures { Sought (operations_of self.entry.view) (seen_of self.entry.view) BadRead evidence.old evidence.new result }
     {
         match self.view.bad_read() {
-            Some(rivals) => Err(Shown::put(
-                Violation::BadRead,
-                0,
-                &[
-                    rivals.read as u16,
-                    rivals.source as u16,
-                    rivals.rival as u16,
-                ],
-                evidence,
-            )),
+            Some(rivals) => Err(Shown::put(Violation::BadRead, 0, &numbers_of(rivals), evidence)),
             None => Ok(()),
         }
     }

@@ -1,10 +1,11 @@
 //! A violation that is shown at the front of the evidence buffer.
-ghost use Rattle.std.specs.Prelude.{◌≡◌, ◌≤◌, length, take};
+ghost use Rattle.std.specs.Prelude.{◌≡◌, ◌<◌, ◌≤◌, length, take, [], ◌∷◌};
 ghost use Rattle.relation.specs.Orders.{Tail};
 
 use crate::lending::NUMBERS;
 use crate::verdict::Violation;
 use relation::put_front;
+use violations::Rivals;
 
 // A violation, the station that it is about or else 0, and how many numbers show it.
 #[derive(Clone, Copy)]
@@ -36,4 +37,18 @@ impl Shown {
             count: numbers.len(),
         }
     }
+}
+
+// A read, its source and its rival, as numbers of the evidence.
+pub(crate) fn numbers_of(rivals: Rivals) -> [u16; 3]
+    requires read { rivals.read < 256 }
+    requires source { rivals.source < 256 }
+    requires rival { rivals.rival < 256 }
+    ensures { result ≡ rivals.read ∷ rivals.source ∷ rivals.rival ∷ [] }
+{
+    [
+        rivals.read as u16,
+        rivals.source as u16,
+        rivals.rival as u16,
+    ]
 }

@@ -10,8 +10,6 @@ ghost use Rattle.violations.specs.Violations.{Rival, BadRead};
 
 use crate::evidence::Rivals;
 use crate::view::View;
-use crate::written::writes;
-use relation::Narrowed;
 use relation::reach::reach;
 use rows::Row;
 
@@ -21,10 +19,7 @@ impl View<'_, '_> {
     pub fn bad_read(self) -> Option<Rivals>
         ensures { SmallestRivals (BadRead (operations_of self.entry) (seen_of self.entry)) result }
     {
-        let between = Narrowed {
-            relation: self.seen,
-            mask: writes(self.recording),
-        };
+        let between = self.between_writes();
         self.overtaken(Row::below(self.recording.count()), |source| {
             reach(&between, source)
         })

@@ -27,7 +27,7 @@ impl View<'_, '_> {
     }
 }
 
-// The register of an operation; 0 where there is none of that number.
+// The register of an operation, by one call of std, as the station is in `sessions`; 0 where there is none of that number.
 fn register_of(recording: &Recording, number: usize) -> u8
     ensures { result ≡ (at (recorded recording.now).operations number).register }
 {

@@ -1,4 +1,4 @@
-use Rattle.std.proofs.Common.{Some, sym, subst, arith}
+use Rattle.std.proofs.Common.{Some, List, ℕ, length, ap, sym, ◌∙◌, subst, arith}
 use Rattle.judgement.specs.Passing.{Passed}
 use Rattle.violations.specs.Views.{operations_of, seen_of}
 use Rattle.judgement.specs.Showing.{Evident}
@@ -17,8 +17,8 @@ returns-in-Ok-Some c =
     subst (λ x. StationFirst ops V x × Evident ops V x c.put.result.station c.put.result.count c.args.evidence.now c.put.new.evidence) (sym c.put.ensures.violation) (
       λ o last. p.init o (c.args.self.view.recording.now.range o last.inside).0 last,
       record {
-        shows = (at.last, at.found, c.put.ensures.front, subst (λ s. CyclicAt ops V s at.last at.found) (sym c.put.ensures.station) p.cyclic);
-        few = omega (arith, c.put.ensures.count);
+        shows = (at.last, at.found, c.put.ensures.front ∙ c.numbers_of.ensures, subst (λ s. CyclicAt ops V s at.last at.found) (sym c.put.ensures.station) p.cyclic);
+        few = omega (arith, c.put.ensures.count, ap (λ (xs : List ℕ). length xs) c.numbers_of.ensures);
         tail = c.put.ensures.tail;
       },
     )
