@@ -10,13 +10,16 @@ use crate::outline::Outline;
 use crate::rule::Rule;
 use rows::{Table, put_row};
 
+// The words of a table.
+pub(crate) const WORDS: usize = 1024;
+
 /// Adds to a table of 1,024 words what the rule demands, until nothing more is demanded: the least relation that holds
 /// what the table held and all that is demanded under it. Words of another length are left as they are.
 pub fn grow<R: Rule>(rule: &R, outline: &Outline, table: &mut [u64])
     ensures least { length table.old ≡ 1024 → Least (Asked (R.demands rule.now) (shapes_of outline.now)) (related table.old) (related table.new) }
     ensures unfit { length table.old ≢ 1024 → table.new ≡ table.old }
 {
-    if table.len() == 1024 {
+    if let Some(table) = table.as_mut_array::<WORDS>() {
         while round(rule, outline, table) {}
     }
 }
@@ -26,13 +29,14 @@ pub fn sweep<R: Rule>(rule: &R, outline: &Outline, table: &mut [u64]) -> bool
     ensures grown { length table.old ≡ 1024 → Grown (Asked (R.demands rule.now) (shapes_of outline.now)) 0 (length (shapes_of outline.now)) table.old table.new result }
     ensures unfit { length table.old ≢ 1024 → (result ≡ false) × (table.new ≡ table.old) }
 {
-    table.len() == 1024 && round(rule, outline, table)
+    match table.as_mut_array::<WORDS>() {
+        Some(table) => round(rule, outline, table),
+        None => false,
+    }
 }
 
 // One round over the rows, the last one first; says whether anything was new.
-// The length is required: with a `&mut [u64; 1024]`, made of the slice in `sweep`, the proof of `sweep` did not close.
-fn round<R: Rule>(rule: &R, outline: &Outline, table: &mut [u64]) -> bool
-    requires { length table.old ≡ 1024 }
+fn round<R: Rule>(rule: &R, outline: &Outline, table: &mut [u64; WORDS]) -> bool
     ensures { Grown (Asked (R.demands rule.now) (shapes_of outline.now)) 0 (length (shapes_of outline.now)) table.old table.new result }
 {
     let mut changed = false;
@@ -42,10 +46,9 @@ fn round<R: Rule>(rule: &R, outline: &Outline, table: &mut [u64]) -> bool
     changed
 }
 
-// Adds to row `a` what is demanded of it, and says whether that was anything new. Requires the length for the sake of `round`.
-fn grow_row<R: Rule>(rule: &R, outline: &Outline, table: &mut [u64], a: usize) -> bool
-    requires long { length table.old ≡ 1024 }
-    requires low { a < 256 }
+// Adds to row `a` what is demanded of it, and says whether that was anything new.
+fn grow_row<R: Rule>(rule: &R, outline: &Outline, table: &mut [u64; WORDS], a: usize) -> bool
+    requires { a < 256 }
     ensures { Grown (Asked (R.demands rule.now) (shapes_of outline.now)) a (a + 1) table.old table.new result }
 {
     let view = Table { words: table };

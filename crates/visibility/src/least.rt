@@ -4,7 +4,7 @@ ghost use Rattle.recording.specs.Telling.{recorded};
 ghost use Rattle.rows.specs.Members.{related};
 ghost use Rattle.visibility.specs.Visible.{IsLeast, Sources};
 
-use crate::growing::grow;
+use crate::growing::{WORDS, grow};
 use crate::outline::Outline;
 use crate::rule::Rule;
 use recording::Recording;
@@ -16,16 +16,14 @@ pub fn least_visibility<R: Rule>(recording: &Recording, rule: &R, table: &mut [u
     ensures least { length table.old ≡ 1024 → IsLeast (R.demands rule.now) (recorded recording.now).operations (related table.new) }
     ensures unfit { length table.old ≢ 1024 → table.new ≡ table.old }
 {
-    if table.len() == 1024 {
+    if let Some(table) = table.as_mut_array::<WORDS>() {
         put_sources(recording, table);
         grow(rule, &Outline::from(recording), table);
     }
 }
 
-// Makes the table hold (source, read) for each read with a source, and nothing else. Requires the length, as
-// `least_visibility` holds the slice that it lends to the growth.
-fn put_sources(recording: &Recording, table: &mut [u64])
-    requires { length table.old ≡ 1024 }
+// Makes the table hold (source, read) for each read with a source, and nothing else.
+fn put_sources(recording: &Recording, table: &mut [u64; WORDS])
     ensures { Sources (recorded recording.now).operations (length (recorded recording.now).operations) table.new }
 {
     clear(table);

@@ -6,8 +6,8 @@ use Rattle.visibility.specs.Visible.{Asked}
 use Rattle.visibility.proofs.Leasts.{is_least}
 use Rattle.visibility.proofs.least.least_visibility.Goals as goal
 
-pub returns-then-table-eq1024-clause-least : goal.returns-then-table-eq1024-clause-least
-returns-then-table-eq1024-clause-least g c = λ _.
+pub returns-in-Some-clause-least : goal.returns-in-Some-clause-least
+returns-in-Some-clause-least g c = λ _.
     let D = g.R.Rule.demands c.args.rule.now in
     let ops = (recorded c.args.recording.now).operations in
     let grown = subst (λ f. Least (Asked D f) (related c.put_sources.new.table) (related c.grow.new.table)) c.from.ensures (c.grow.ensures.least c.put_sources.ensures.long) in
