@@ -10,6 +10,9 @@ use crate::station_view::StationView;
 use rows::{Row, clear, put_row};
 use visibility::{Outline, grow};
 
+// The words of a table.
+const WORDS: usize = 1024;
+
 impl StationView<'_, '_> {
     /// Makes a table of 1,024 words the smallest transitive relation that holds what is seen among the operation `last` and all
     /// that it sees, and puts a write that is before a read of its station before the read's source. Words of another length are
@@ -18,7 +21,7 @@ impl StationView<'_, '_> {
         ensures happened { Grounded (operations_of self.entry.view) (seen_of self.entry.view) self.entry.last table.old → HappensBefore (operations_of self.entry.view) (seen_of self.entry.view) self.entry.last (related table.new) }
         ensures unfit { length table.old ≢ 1024 → table.new ≡ table.old }
     {
-        if table.len() == 1024 {
+        if let Some(table) = table.as_mut_array::<WORDS>() {
             self.put_past(table);
             let recording = self.view.recording;
             grow(
@@ -29,10 +32,8 @@ impl StationView<'_, '_> {
         }
     }
 
-    // Makes the table hold what is seen among `last` and all that it sees, and nothing else. Requires the length, as
-    // `put_happened` holds the slice that it lends to the growth.
-    fn put_past(self, table: &mut [u64])
-        requires { length table.old ≡ 1024 }
+    // Makes the table hold what is seen among `last` and all that it sees, and nothing else.
+    fn put_past(self, table: &mut [u64; WORDS])
         ensures { PastTable (operations_of self.entry.view) (seen_of self.entry.view) self.entry.last table.new }
     {
         let past = self.past();
