@@ -18,7 +18,7 @@ pub trait Rule {
     ghost known: { Self → ℕ };
 
     /// Whether the pair is demanded; beyond the operations no pair is.
-    // No default by `demanded`: its own is by `asks`, and two defaults that call each other have no proof that they end.
+    // No default by `demanded`, whose own is by `asks`: such a ring proves, but is named under `hides`, which the gate refuses.
     fn asks(&self, outline: &Outline, seen: Table<'_>, a: usize, b: usize) -> bool
         ensures { Decides result (Asked (demands self.now) (shapes_of outline.now) (related seen.entry.words.now) a b) };
 
