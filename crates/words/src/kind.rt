@@ -19,12 +19,13 @@ impl From<u32> for WordKind {
     ghost from_gives = { λ word kind. kind ≡ kind_of word };
 
     fn from(word: u32) -> WordKind {
-        match (field(word, 31, 30), field(word, 29, 29)) {
-            (0, _) => WordKind::Note,
-            (1, _) => WordKind::Write,
-            (2, _) => WordKind::Read,
-            (_, 0) => WordKind::Opening,
-            (_, _) => WordKind::Closing,
+        // The top three bits lie between the code of the kind and that of the next.
+        match field(word, 31, 29) {
+            bits if bits < WordKind::Write as u32 => WordKind::Note,
+            bits if bits < WordKind::Read as u32 => WordKind::Write,
+            bits if bits < WordKind::Opening as u32 => WordKind::Read,
+            bits if bits < WordKind::Closing as u32 => WordKind::Opening,
+            _ => WordKind::Closing,
         }
     }
 }

@@ -45,8 +45,9 @@ pub fn save(recording: &Recording, words: &mut [u32]) -> Result<usize, SaveRefus
         return Err(SaveRefusal::TooShort);
     }
     words[0] = WordKind::Opening.blank() | recording.stations() as u32;
-    for (number, operation) in operations.iter().enumerate() {
-        words[number + 1] = operation_word(*operation);
+    // No `words[1..].iter_mut().zip(operations)`: an adapter of `iter_mut` leaves the words unknown to the proof.
+    for (place, operation) in (1..).zip(operations) {
+        words[place] = operation_word(*operation);
     }
     words[count + 1] = WordKind::Closing.blank() | count as u32;
     Ok(count + 2)
