@@ -2,9 +2,9 @@
 ghost use Rattle.console.specs.Line.{LineAnswer, NextWord, WordsAnswer};
 
 use std::error::Error;
-use std::fmt;
 use std::num::ParseIntError;
 use std::str::SplitWhitespace;
+use std::{array, fmt};
 use words::Call;
 
 /// A line that says nothing that is understood.
@@ -30,13 +30,7 @@ pub fn parse(text: &str) -> Result<Option<Call<'static>>, Unreadable>
     ensures { LineAnswer text.now result }
 {
     let mut words = text.split_whitespace();
-    call([
-        next(&mut words),
-        next(&mut words),
-        next(&mut words),
-        next(&mut words),
-        next(&mut words),
-    ])
+    call(array::from_fn(|_| next(&mut words)))
 }
 
 // The next word of a line, empty if there is none.

@@ -54,7 +54,7 @@ pub fn print_words(rt: &impl Print, recording: &Recording) -> io::Result<()> {
     match copy(recording, &mut words, &mut copied) {
         Ok(count) => {
             println!(rt; "{count} words:")?;
-            for word in &words[0..count] {
+            for word in &words[..count] {
                 println!(rt; "{word:08X}")?;
             }
             println!(rt; "loaded back: equal")
