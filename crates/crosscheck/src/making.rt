@@ -3,46 +3,76 @@ use crate::dice::Dice;
 use recording::Kind::{self, Read, Write};
 use recording::Recording;
 
-// An operation: its station, whether it writes or reads, its register and its value.
-type Told = (u32, Kind, u32, u32);
+// An operation to tell.
+#[derive(Clone, Copy)]
+struct Told {
+    station: u32,
+    kind: Kind,
+    register: u32,
+    value: u32,
+}
 
-const BADARB: &[Told] = &[
-    (0, Write, 1, 1),
-    (0, Read, 1, 2),
-    (1, Write, 1, 2),
-    (1, Read, 1, 1),
-];
+// A write to tell.
+fn write(station: u32, register: u32, value: u32) -> Told {
+    Told {
+        station,
+        kind: Write,
+        register,
+        value,
+    }
+}
 
-const HBINITREAD: &[Told] = &[
-    (0, Write, 3, 1),
-    (0, Write, 1, 1),
-    (2, Write, 1, 2),
-    (1, Read, 1, 2),
-    (1, Read, 3, 0),
-    (1, Read, 1, 1),
-    (1, Read, 1, 2),
-];
+// A read to tell.
+fn read(station: u32, register: u32, value: u32) -> Told {
+    Told {
+        station,
+        kind: Read,
+        register,
+        value,
+    }
+}
 
-const CYCLICHB: &[Told] = &[
-    (2, Write, 3, 9),
-    (0, Read, 3, 9),
-    (0, Write, 3, 1),
-    (0, Write, 1, 1),
-    (0, Write, 2, 1),
-    (1, Write, 1, 2),
-    (1, Read, 3, 9),
-    (1, Read, 2, 1),
-    (1, Read, 1, 2),
-];
+// The patterns are functions, since a constant cannot call `write`. This one is of a recording with `badarb`.
+fn badarb() -> [Told; 4] {
+    [write(0, 1, 1), read(0, 1, 2), write(1, 1, 2), read(1, 1, 1)]
+}
+
+// Of one with `hbinitread`.
+fn hbinitread() -> [Told; 7] {
+    [
+        write(0, 3, 1),
+        write(0, 1, 1),
+        write(2, 1, 2),
+        read(1, 1, 2),
+        read(1, 3, 0),
+        read(1, 1, 1),
+        read(1, 1, 2),
+    ]
+}
+
+// Of one with `cyclichb`.
+fn cyclichb() -> [Told; 9] {
+    [
+        write(2, 3, 9),
+        read(0, 3, 9),
+        write(0, 3, 1),
+        write(0, 1, 1),
+        write(0, 2, 1),
+        write(1, 1, 2),
+        read(1, 3, 9),
+        read(1, 2, 1),
+        read(1, 1, 2),
+    ]
+}
 
 /// The next recording: four stations, at most six writes, and at most twelve operations.
 pub fn make(dice: &mut Dice) -> Recording {
     let mut recording = Recording::unstarted();
     let _ = recording.start(4);
     match dice.below(8) {
-        0 => follow(&mut recording, dice, BADARB),
-        1 => follow(&mut recording, dice, HBINITREAD),
-        2 => follow(&mut recording, dice, CYCLICHB),
+        0 => follow(&mut recording, dice, &badarb()),
+        1 => follow(&mut recording, dice, &hbinitread()),
+        2 => follow(&mut recording, dice, &cyclichb()),
         _ => {
             let operations = dice.below(11);
             throw(&mut recording, dice, operations);
@@ -54,11 +84,16 @@ pub fn make(dice: &mut Dice) -> Recording {
 // Tells the operations of a pattern, of which now and then one is left out, on other stations and registers; then some more.
 fn follow(recording: &mut Recording, dice: &mut Dice, pattern: &[Told]) {
     let turn = dice.below(4);
-    for (station, kind, register, value) in pattern {
+    for operation in pattern {
         if dice.below(16) > 0 {
-            let station = station.saturating_add(turn) % 4;
-            let register = register.saturating_add(turn);
-            tell(recording, (station, *kind, register, *value));
+            tell(
+                recording,
+                Told {
+                    station: operation.station.saturating_add(turn) % 4,
+                    register: operation.register.saturating_add(turn),
+                    ..*operation
+                },
+            );
         }
     }
     let more = dice.below(2);
@@ -67,7 +102,12 @@ fn follow(recording: &mut Recording, dice: &mut Dice, pattern: &[Told]) {
 
 // Tells a write or a read.
 fn tell(recording: &mut Recording, operation: Told) {
-    let (station, kind, register, value) = operation;
+    let Told {
+        station,
+        kind,
+        register,
+        value,
+    } = operation;
     let _ = match kind {
         Write => recording.write(station, register, value),
         Read => recording.read(station, register, value),
@@ -86,10 +126,10 @@ fn throw(recording: &mut Recording, dice: &mut Dice, operations: u32) {
         if writes < 6 && dice.below(2) == 0 {
             writes = writes.saturating_add(1);
             written[place] = written[place].saturating_add(1);
-            tell(recording, (station, Write, register, written[place]));
+            tell(recording, write(station, register, written[place]));
         } else {
             let value = thrown_value(dice, written[place]);
-            tell(recording, (station, Read, register, value));
+            tell(recording, read(station, register, value));
         }
     }
 }
