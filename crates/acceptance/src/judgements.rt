@@ -3,20 +3,21 @@ use judgement::{
     Refusal, Verdict, Violation, judge_own, judge_session, judge_shared, order_for_read,
     order_for_station,
 };
+use recording::Kind::{self, Read, Write};
 use recording::Recording;
 use rows::Table;
 use std::process::Abort;
 use std::test::Fail;
 use visibility::{Causal, Late, Rule, TermList};
 
-// A recording of three stations; each operation is its station, `w` or `r`, its register and its value.
-fn told(rt: &impl Abort, operations: &[(u32, char, u32, u32)]) -> Recording {
+// A recording of three stations; each operation is its station, whether it writes or reads, its register and its value.
+fn told(rt: &impl Abort, operations: &[(u32, Kind, u32, u32)]) -> Recording {
     let mut recording = Recording::unstarted();
     assert!(rt; recording.start(3).is_ok());
     for (station, kind, register, value) in operations {
         let answer = match kind {
-            'w' => recording.write(*station, *register, *value),
-            _ => recording.read(*station, *register, *value),
+            Write => recording.write(*station, *register, *value),
+            Read => recording.read(*station, *register, *value),
         };
         assert!(rt; answer.is_ok());
     }
@@ -92,7 +93,7 @@ fn no_operations_are_explained(rt: HostRuntime) -> Result<(), Fail> {
 
 #[test]
 fn a_value_that_nobody_wrote_is_thin_air(rt: HostRuntime) -> Result<(), Fail> {
-    let recording = told(&rt, &[(0, 'r', 5, 7)]);
+    let recording = told(&rt, &[(0, Read, 5, 7)]);
     let found = (Some(Violation::ThinAir), 1, [0, 999, 999]);
     assert_eq!(rt; own(&recording, &Causal)?, found);
     assert_eq!(rt; shared(&recording, &Causal)?, found);
@@ -101,7 +102,7 @@ fn a_value_that_nobody_wrote_is_thin_air(rt: HostRuntime) -> Result<(), Fail> {
 
 #[test]
 fn a_read_before_its_own_write_is_a_cycle(rt: HostRuntime) -> Result<(), Fail> {
-    let recording = told(&rt, &[(0, 'r', 5, 7), (0, 'w', 5, 7)]);
+    let recording = told(&rt, &[(0, Read, 5, 7), (0, Write, 5, 7)]);
     assert_eq!(rt; own(&recording, &Causal)?.0, Some(Violation::BadVisibility));
     assert_eq!(rt;
         shared(&recording, &Causal)?.0,
@@ -113,7 +114,7 @@ fn a_read_before_its_own_write_is_a_cycle(rt: HostRuntime) -> Result<(), Fail> {
 
 #[test]
 fn a_read_of_zero_after_a_write_of_its_station(rt: HostRuntime) -> Result<(), Fail> {
-    let recording = told(&rt, &[(0, 'w', 5, 7), (0, 'r', 5, 0)]);
+    let recording = told(&rt, &[(0, Write, 5, 7), (0, Read, 5, 0)]);
     let found = (Some(Violation::BadInitRead), 2, [1, 0, 999]);
     assert_eq!(rt; own(&recording, &Causal)?, found);
     assert_eq!(rt; shared(&recording, &Causal)?, found);
@@ -127,10 +128,10 @@ fn an_older_value_after_a_newer_one_is_a_bad_read(rt: HostRuntime) -> Result<(),
     let recording = told(
         &rt,
         &[
-            (0, 'w', 1, 1),
-            (0, 'w', 1, 2),
-            (1, 'r', 1, 2),
-            (1, 'r', 1, 1),
+            (0, Write, 1, 1),
+            (0, Write, 1, 2),
+            (1, Read, 1, 2),
+            (1, Read, 1, 1),
         ],
     );
     let found = (Some(Violation::BadRead), 3, [3, 0, 1]);
@@ -146,10 +147,10 @@ fn reads_that_want_opposite_orders_have_each_its_own(rt: HostRuntime) -> Result<
     let recording = told(
         &rt,
         &[
-            (0, 'w', 1, 1),
-            (0, 'r', 1, 2),
-            (1, 'w', 1, 2),
-            (1, 'r', 1, 1),
+            (0, Write, 1, 1),
+            (0, Read, 1, 2),
+            (1, Write, 1, 2),
+            (1, Read, 1, 1),
         ],
     );
     assert_eq!(rt; own(&recording, &Causal)?, (None, 0, [999, 999, 999]));
@@ -166,12 +167,12 @@ fn a_bad_read_by_two_steps_where_one_does_not_show_it(rt: HostRuntime) -> Result
     let recording = told(
         &rt,
         &[
-            (0, 'w', 1, 1),
-            (1, 'r', 1, 1),
-            (1, 'w', 2, 1),
-            (2, 'r', 2, 1),
-            (2, 'w', 1, 2),
-            (2, 'r', 1, 1),
+            (0, Write, 1, 1),
+            (1, Read, 1, 1),
+            (1, Write, 2, 1),
+            (2, Read, 2, 1),
+            (2, Write, 1, 2),
+            (2, Read, 1, 1),
         ],
     );
     let rule = terms(b"s,vs")?;
@@ -189,7 +190,7 @@ fn a_bad_read_by_two_steps_where_one_does_not_show_it(rt: HostRuntime) -> Result
 
 #[test]
 fn an_order_is_refused_on_the_first_ground(rt: HostRuntime) {
-    let recording = told(&rt, &[(0, 'w', 5, 7), (0, 'r', 5, 0)]);
+    let recording = told(&rt, &[(0, Write, 5, 7), (0, Read, 5, 0)]);
     let mut seen = [1; 1024];
     let mut working = [1; 1024];
     let mut evidence = [999; 256];
@@ -246,25 +247,25 @@ fn session(recording: &Recording) -> Result<(Option<Violation>, u8, usize, [u16;
 fn sessions_of_the_smallest_recordings(rt: HostRuntime) -> Result<(), Fail> {
     assert_eq!(rt; session(&told(&rt, &[]))?, (None, 0, 0, [999, 999, 999]));
     assert_eq!(rt;
-        session(&told(&rt, &[(0, 'r', 5, 7)]))?,
+        session(&told(&rt, &[(0, Read, 5, 7)]))?,
         (Some(Violation::ThinAir), 0, 1, [0, 999, 999])
     );
     assert_eq!(rt;
-        session(&told(&rt, &[(0, 'r', 5, 7), (0, 'w', 5, 7)]))?.0,
+        session(&told(&rt, &[(0, Read, 5, 7), (0, Write, 5, 7)]))?.0,
         Some(Violation::BadVisibility)
     );
     assert_eq!(rt;
-        session(&told(&rt, &[(0, 'w', 5, 7), (0, 'r', 5, 0)]))?,
+        session(&told(&rt, &[(0, Write, 5, 7), (0, Read, 5, 0)]))?,
         (Some(Violation::BadInitRead), 0, 2, [1, 0, 999])
     );
     assert_eq!(rt;
         session(&told(
             &rt,
             &[
-                (0, 'w', 1, 1),
-                (0, 'w', 1, 2),
-                (1, 'r', 1, 2),
-                (1, 'r', 1, 1),
+                (0, Write, 1, 1),
+                (0, Write, 1, 2),
+                (1, Read, 1, 2),
+                (1, Read, 1, 1),
             ],
         ),)?,
         (Some(Violation::BadRead), 0, 3, [3, 0, 1])
@@ -277,10 +278,10 @@ fn opposite_orders_are_explained_by_sessions(rt: HostRuntime) -> Result<(), Fail
     let recording = told(
         &rt,
         &[
-            (0, 'w', 1, 1),
-            (0, 'r', 1, 2),
-            (1, 'w', 1, 2),
-            (1, 'r', 1, 1),
+            (0, Write, 1, 1),
+            (0, Read, 1, 2),
+            (1, Write, 1, 2),
+            (1, Read, 1, 1),
         ],
     );
     assert_eq!(rt; session(&recording)?, (None, 0, 0, [999, 999, 999]));
@@ -309,13 +310,13 @@ fn a_write_has_happened_before_a_read_of_zero(rt: HostRuntime) -> Result<(), Fai
     let recording = told(
         &rt,
         &[
-            (0, 'w', 3, 1),
-            (0, 'w', 1, 1),
-            (2, 'w', 1, 2),
-            (1, 'r', 1, 2),
-            (1, 'r', 3, 0),
-            (1, 'r', 1, 1),
-            (1, 'r', 1, 2),
+            (0, Write, 3, 1),
+            (0, Write, 1, 1),
+            (2, Write, 1, 2),
+            (1, Read, 1, 2),
+            (1, Read, 3, 0),
+            (1, Read, 1, 1),
+            (1, Read, 1, 2),
         ],
     );
     assert_eq!(rt; own(&recording, &Causal)?.0, None);
@@ -332,15 +333,15 @@ fn a_write_has_happened_between_a_read_and_its_source(rt: HostRuntime) -> Result
     let recording = told(
         &rt,
         &[
-            (2, 'w', 3, 9),
-            (0, 'r', 3, 9),
-            (0, 'w', 3, 1),
-            (0, 'w', 1, 1),
-            (0, 'w', 2, 1),
-            (1, 'w', 1, 2),
-            (1, 'r', 3, 9),
-            (1, 'r', 2, 1),
-            (1, 'r', 1, 2),
+            (2, Write, 3, 9),
+            (0, Read, 3, 9),
+            (0, Write, 3, 1),
+            (0, Write, 1, 1),
+            (0, Write, 2, 1),
+            (1, Write, 1, 2),
+            (1, Read, 3, 9),
+            (1, Read, 2, 1),
+            (1, Read, 1, 2),
         ],
     );
     assert_eq!(rt; own(&recording, &Causal)?.0, None);
