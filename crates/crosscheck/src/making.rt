@@ -12,56 +12,51 @@ struct Told {
     value: u32,
 }
 
-// A write to tell.
-fn write(station: u32, register: u32, value: u32) -> Told {
+// An operation of these parts.
+fn operation(station: u32, kind: Kind, register: u32, value: u32) -> Told {
     Told {
         station,
-        kind: Write,
+        kind,
         register,
         value,
     }
 }
 
-// A read to tell.
-fn read(station: u32, register: u32, value: u32) -> Told {
-    Told {
-        station,
-        kind: Read,
-        register,
-        value,
-    }
-}
-
-// The patterns are functions, since a constant cannot call `write`. This one is of a recording with `badarb`.
+// What shows `badarb`. The patterns are functions, since a constant cannot call `operation`.
 fn badarb() -> [Told; 4] {
-    [write(0, 1, 1), read(0, 1, 2), write(1, 1, 2), read(1, 1, 1)]
-}
-
-// Of one with `hbinitread`.
-fn hbinitread() -> [Told; 7] {
     [
-        write(0, 3, 1),
-        write(0, 1, 1),
-        write(2, 1, 2),
-        read(1, 1, 2),
-        read(1, 3, 0),
-        read(1, 1, 1),
-        read(1, 1, 2),
+        operation(0, Write, 1, 1),
+        operation(0, Read, 1, 2),
+        operation(1, Write, 1, 2),
+        operation(1, Read, 1, 1),
     ]
 }
 
-// Of one with `cyclichb`.
+// What shows `hbinitread`.
+fn hbinitread() -> [Told; 7] {
+    [
+        operation(0, Write, 3, 1),
+        operation(0, Write, 1, 1),
+        operation(2, Write, 1, 2),
+        operation(1, Read, 1, 2),
+        operation(1, Read, 3, 0),
+        operation(1, Read, 1, 1),
+        operation(1, Read, 1, 2),
+    ]
+}
+
+// What shows `cyclichb`.
 fn cyclichb() -> [Told; 9] {
     [
-        write(2, 3, 9),
-        read(0, 3, 9),
-        write(0, 3, 1),
-        write(0, 1, 1),
-        write(0, 2, 1),
-        write(1, 1, 2),
-        read(1, 3, 9),
-        read(1, 2, 1),
-        read(1, 1, 2),
+        operation(2, Write, 3, 9),
+        operation(0, Read, 3, 9),
+        operation(0, Write, 3, 1),
+        operation(0, Write, 1, 1),
+        operation(0, Write, 2, 1),
+        operation(1, Write, 1, 2),
+        operation(1, Read, 3, 9),
+        operation(1, Read, 2, 1),
+        operation(1, Read, 1, 2),
     ]
 }
 
@@ -126,10 +121,13 @@ fn throw(recording: &mut Recording, dice: &mut Dice, operations: u32) {
         if writes < 6 && dice.below(2) == 0 {
             writes = writes.saturating_add(1);
             written[place] = written[place].saturating_add(1);
-            tell(recording, write(station, register, written[place]));
+            tell(
+                recording,
+                operation(station, Write, register, written[place]),
+            );
         } else {
             let value = thrown_value(dice, written[place]);
-            tell(recording, read(station, register, value));
+            tell(recording, operation(station, Read, register, value));
         }
     }
 }
