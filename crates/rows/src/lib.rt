@@ -8,4 +8,4 @@ pub mod table;
 
 pub use members::Members;
 pub use row::Row;
-pub use table::{Table, clear, put_pair, put_row};
+pub use table::{Table, WORDS, clear, put_pair, put_row};

@@ -1,4 +1,4 @@
-//! A set of the numbers 0 to 255, in four words of 64 bits. Each call costs a few operations on words.
+//! A set of the numbers 0 to 255, in four words of 64 bits. Each call but those that go through the members costs a few operations on words.
 ghost use Rattle.std.specs.Prelude.{◌≡◌, ℕ, ◌<◌, ◌≤◌, min, true, false, not, ◌&&◌, ◌||◌, Decides, ◌==◌, count_ones, nat_lt, slice_index};
 ghost use Rattle.rows.specs.Counts.{size};
 ghost use Rattle.rows.specs.Members.{bit, member, First, Found};

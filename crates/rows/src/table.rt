@@ -16,6 +16,11 @@ ghost use Rattle.std.specs.Prelude.{
 ghost use Rattle.rows.specs.Members.{member, related};
 
 use crate::row::Row;
+use std::array;
+
+/// The words of a table. The calls here and above take a slice of any length, and leave one that has another as it is: an array
+/// would ask more of a caller.
+pub const WORDS: usize = 1024;
 
 /// A table that is read: a relation on the numbers below 256.
 #[derive(Clone, Copy)]
@@ -36,15 +41,9 @@ impl Table<'_> {
     pub fn row(self, a: usize) -> Row
         ensures { (b : ℕ) → member result b ≡ related self.entry.words.now a b }
     {
-        // Word by word, as a copy of the four as a slice takes half as long again.
         if a < 256 {
             Row {
-                words: [
-                    self.words[4 * a],
-                    self.words[4 * a + 1],
-                    self.words[4 * a + 2],
-                    self.words[4 * a + 3],
-                ],
+                words: array::from_fn(|i| self.words[4 * a + i]),
             }
         } else {
             Row::empty()
@@ -60,7 +59,7 @@ pub fn put_row(table: &mut [u64], a: usize, row: Row)
     ensures above { 256 ≤ a → table.new ≡ table.old }
     ensures unfit { length table.old ≢ 1024 → table.new ≡ table.old }
 {
-    if table.len() == 1024 && a < 256 {
+    if table.len() == WORDS && a < 256 {
         // Word by word, as a copy of the four as a slice takes a fifth longer.
         table[4 * a] = row.words[0];
         table[4 * a + 1] = row.words[1];
@@ -77,7 +76,7 @@ pub fn put_pair(table: &mut [u64], a: usize, b: usize)
     ensures beyond { 256 ≤ b → table.new ≡ table.old }
     ensures unfit { length table.old ≢ 1024 → table.new ≡ table.old }
 {
-    if table.len() == 1024 && a < 256 && b < 256 {
+    if table.len() == WORDS && a < 256 && b < 256 {
         let row = Table { words: table }.row(a).with(b);
         put_row(table, a, row);
     }
