@@ -1,28 +1,19 @@
 //! Reads of one station that what has happened before them forbids. Here a view sees what has happened before.
-ghost use Rattle.violations.specs.Explained.{In, SeesOf};
-ghost use Rattle.violations.specs.Firsts.{Smallest, SmallestPair, SmallestRivals};
+ghost use Rattle.violations.specs.Firsts.{SmallestPair, SmallestRivals};
 ghost use Rattle.violations.specs.Views.{operations_of, seen_of};
 ghost use Rattle.sessions.specs.Happening.{HbInitRead, CyclicHb};
 
 use crate::station_view::StationView;
 use crate::stations::station_reads;
-use rows::Row;
-use violations::{Pair, Rivals, View, is_initial_read};
+use violations::{Pair, Rivals};
 
 impl StationView<'_, '_> {
     /// The smallest read of 0 of the station of `last` before which a write of its register has happened, with the smallest such write.
     pub fn hb_init_read(self) -> Option<Pair>
         ensures { SmallestPair (HbInitRead (operations_of self.entry.view) self.entry.last (seen_of self.entry.view)) result }
     {
-        let recording = self.view.recording;
-        for read in station_reads(recording, self.last).members() {
-            if is_initial_read(recording, read) {
-                if let Some(write) = first_before(self.view, read) {
-                    return Some(Pair { read, write });
-                }
-            }
-        }
-        None
+        let reads = station_reads(self.view.recording, self.last);
+        self.view.init_read(reads)
     }
 
     /// The smallest read of the station of `last` with a source before which another write of its register has happened, and that
@@ -34,11 +25,4 @@ impl StationView<'_, '_> {
         let happened = self.view.seen;
         self.view.overtaken(reads, |source| happened.row(source))
     }
-}
-
-// The smallest write of its register that has happened before a read.
-fn first_before(view: View<'_, '_>, read: usize) -> Option<usize>
-    ensures { Smallest (SeesOf (operations_of view.entry) (In (seen_of view.entry)) read) result }
-{
-    Row::below(view.recording.count()).find(|write| view.sees(read, write))
 }

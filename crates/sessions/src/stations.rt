@@ -20,15 +20,7 @@ pub fn is_station_read(recording: &Recording, other: usize, number: usize) -> bo
     ensures { Decides result (StationRead (recorded recording.now).operations other number) }
 {
     recording.operation(number).is_some_and(|operation| {
-        operation.kind == Kind::Read && operation.station == station_of(recording, other)
+        operation.kind == Kind::Read
+            && operation.station == recording.operation(other).unwrap_or_default().station
     })
-}
-
-// The station of an operation, by one call of std, as the register is in `violations`; 0 where there is none of that number.
-fn station_of(recording: &Recording, number: usize) -> u8
-    ensures { result ≡ (at (recorded recording.now).operations number).station }
-{
-    recording
-        .operation(number)
-        .map_or(0, |operation| operation.station)
 }

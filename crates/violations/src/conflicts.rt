@@ -4,7 +4,7 @@ ghost use Rattle.violations.specs.Tabled.{Tabled};
 ghost use Rattle.violations.specs.Views.{operations_of, seen_of};
 
 use crate::view::View;
-use rows::{clear, put_pair};
+use rows::{WORDS, clear, put_pair};
 
 impl View<'_, '_> {
     /// Makes a table of 1,024 words hold (x, w) for each conflict, and nothing else. Words of another length are left as they are.
@@ -12,7 +12,7 @@ impl View<'_, '_> {
         ensures conflicts { length table.old ≡ 1024 → Tabled (operations_of self.entry) (seen_of self.entry) (length (operations_of self.entry)) table.new }
         ensures unfit { length table.old ≢ 1024 → table.new ≡ table.old }
     {
-        if table.len() == 1024 {
+        if let Some(table) = table.as_mut_array::<WORDS>() {
             clear(table);
             for read in 0..self.recording.count() {
                 self.put_rivals(read, table);
@@ -21,7 +21,7 @@ impl View<'_, '_> {
     }
 
     // Adds the conflicts of one number, if it names a read with a source.
-    fn put_rivals(self, read: usize, table: &mut [u64])
+    fn put_rivals(self, read: usize, table: &mut [u64; WORDS])
         requires { Tabled (operations_of self) (seen_of self) read table.old }
         ensures { Tabled (operations_of self.entry) (seen_of self.entry) (read + 1) table.new }
     {

@@ -2,6 +2,7 @@
 ghost use Rattle.std.specs.Prelude.{◌≡◌, true, Decides};
 ghost use Rattle.recording.specs.Operations.{at, IsRead};
 ghost use Rattle.recording.specs.Telling.{recorded};
+ghost use Rattle.rows.specs.Members.{member};
 ghost use Rattle.violations.specs.Firsts.{Smallest, SmallestPair};
 ghost use Rattle.violations.specs.Sourceless.{SourcelessValue};
 ghost use Rattle.violations.specs.Views.{operations_of, seen_of};
@@ -48,12 +49,18 @@ impl View<'_, '_> {
     pub fn bad_init_read(self) -> Option<Pair>
         ensures { SmallestPair (BadInitRead (operations_of self.entry) (seen_of self.entry)) result }
     {
-        let count = self.recording.count();
+        self.init_read(Row::below(self.recording.count()))
+    }
+
+    /// The smallest of some reads that is a read of 0 and sees a write of its register, with the smallest such write.
+    pub fn init_read(self, reads: Row) -> Option<Pair>
+        ensures { SmallestPair (λ r w. (member reads r ≡ true) × BadInitRead (operations_of self.entry) (seen_of self.entry) r w) result }
+    {
         // Nested loops that a label leaves at the first hit are a form that the project fixes.
         let mut found = None;
-        'reads: for read in 0..count {
+        'reads: for read in reads.members() {
             if is_initial_read(self.recording, read) {
-                for write in 0..count {
+                for write in 0..self.recording.count() {
                     if self.sees(read, write) {
                         found = Some(Pair { read, write });
                         break 'reads;

@@ -22,16 +22,9 @@ impl View<'_, '_> {
     {
         self.seen.pair(write, read)
             && self.recording.operation(write).is_some_and(|writer| {
-                writer.kind == Kind::Write && writer.register == register_of(self.recording, read)
+                writer.kind == Kind::Write
+                    && writer.register
+                        == self.recording.operation(read).unwrap_or_default().register
             })
     }
-}
-
-// The register of an operation, by one call of std, as the station is in `sessions`; 0 where there is none of that number.
-fn register_of(recording: &Recording, number: usize) -> u8
-    ensures { result ≡ (at (recorded recording.now).operations number).register }
-{
-    recording
-        .operation(number)
-        .map_or(0, |operation| operation.register)
 }
