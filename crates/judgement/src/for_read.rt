@@ -8,12 +8,12 @@ ghost use Rattle.judgement.specs.Verdicts.{OrderAnswer, lent};
 ghost use Rattle.violations.specs.Views.{operations_of, seen_of};
 ghost use Rattle.violations.specs.Violations.{OwnClean};
 
-use crate::lending::{NUMBERS, WORDS};
+use crate::lending::NUMBERS;
 use crate::own::own_verdict;
 use crate::refusal::Refusal;
 use recording::Recording;
 use relation::{Union, order_or_cycle};
-use rows::Table;
+use rows::{Table, WORDS};
 use violations::View;
 use visibility::Rule;
 
@@ -35,9 +35,7 @@ pub fn order_for_read<R: Rule>(
     let evidence = evidence
         .as_mut_array::<NUMBERS>()
         .ok_or(Refusal::WrongLength)?;
-    if recording.source(read).is_err() {
-        return Err(Refusal::NotARead);
-    }
+    recording.source(read).map_err(|_| Refusal::NotARead)?;
     own_order(recording, rule, read, seen, evidence)
 }
 
@@ -64,6 +62,7 @@ fn order_writes(view: View<'_, '_>, read: usize, evidence: &mut [u16; NUMBERS]) 
     ensures { OrderedFor (operations_of view.entry) (seen_of view.entry) read result evidence.old evidence.new }
 {
     let between = view.between_writes();
+    // The union is written as in `arbitrate`, with another part: a function would only wrap the literal.
     let kept = Union {
         one: between,
         other: view.forced(read),

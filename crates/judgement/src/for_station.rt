@@ -9,13 +9,13 @@ ghost use Rattle.sessions.specs.Listings.{SessionExplains};
 ghost use Rattle.judgement.specs.Ordered.{ListingFound, ListedPast};
 ghost use Rattle.judgement.specs.Verdicts.{ListingAnswer, lent};
 
-use crate::lending::{NUMBERS, WORDS};
+use crate::lending::NUMBERS;
 use crate::refusal::Refusal;
 use crate::session::session_verdict;
 use crate::stale::last_of;
 use recording::Recording;
 use relation::order_or_cycle;
-use rows::Table;
+use rows::{Table, WORDS};
 use sessions::{Listed, StationView, station_reads};
 use violations::View;
 

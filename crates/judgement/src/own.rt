@@ -3,12 +3,12 @@ ghost use Rattle.recording.specs.Telling.{recorded};
 ghost use Rattle.rows.specs.Members.{related};
 ghost use Rattle.judgement.specs.Verdicts.{JudgementAnswer, OwnJudged, lent};
 
-use crate::lending::{NUMBERS, WORDS};
+use crate::lending::NUMBERS;
 use crate::refusal::Refusal;
 use crate::scene::Scene;
 use crate::verdict::Verdict;
 use recording::Recording;
-use rows::Table;
+use rows::{Table, WORDS};
 use violations::View;
 use visibility::{Rule, least_visibility};
 

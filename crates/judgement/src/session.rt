@@ -5,13 +5,13 @@ ghost use Rattle.violations.specs.Views.{operations_of, seen_of};
 ghost use Rattle.judgement.specs.Stale.{SessionSought, StationsSought};
 ghost use Rattle.judgement.specs.Verdicts.{JudgementAnswer, SessionJudged, lent};
 
-use crate::lending::{NUMBERS, WORDS};
+use crate::lending::NUMBERS;
 use crate::refusal::Refusal;
 use crate::scene::Scene;
 use crate::shown::{Shown, numbers_of};
 use crate::verdict::{Verdict, Violation};
 use recording::Recording;
-use rows::Table;
+use rows::{Table, WORDS};
 use violations::View;
 use visibility::{Causal, least_visibility};
 

@@ -5,13 +5,13 @@ ghost use Rattle.judgement.specs.Arbitrated.{SharedSought};
 ghost use Rattle.violations.specs.Views.{operations_of, seen_of};
 ghost use Rattle.judgement.specs.Verdicts.{JudgementAnswer, SharedJudged, lent};
 
-use crate::lending::{NUMBERS, WORDS};
+use crate::lending::NUMBERS;
 use crate::refusal::Refusal;
 use crate::scene::Scene;
 use crate::shown::Shown;
 use crate::verdict::Verdict;
 use recording::Recording;
-use rows::Table;
+use rows::{Table, WORDS};
 use violations::View;
 use visibility::{Rule, least_visibility};
 

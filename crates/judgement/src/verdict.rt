@@ -34,6 +34,7 @@ pub struct Verdict {
     /// The first violation that holds; none if the recording is explained.
     pub violation: Option<Violation>,
     /// The station that the violation is about, if it is about one; else 0.
+    // No `Option`: a verdict is fixed as numbers, of which 0 stands for no station.
     pub station: u8,
     /// How many numbers at the front of the evidence buffer are evidence.
     pub count: usize,

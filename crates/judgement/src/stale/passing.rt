@@ -5,11 +5,10 @@ ghost use Rattle.recording.specs.Telling.{recorded};
 ghost use Rattle.judgement.specs.Passing.{FoundAt, Passed, PassedTo};
 ghost use Rattle.violations.specs.Views.{operations_of, seen_of};
 
-use crate::lending::WORDS;
 use crate::scene::Scene;
 use crate::stale::AtStation;
 use recording::Recording;
-use rows::Table;
+use rows::{Table, WORDS};
 use sessions::StationView;
 use violations::{Pair, Rivals, View};
 
