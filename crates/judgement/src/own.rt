@@ -31,7 +31,8 @@ pub fn judge_own<R: Rule>(
     Ok(own_verdict(recording, rule, seen, evidence))
 }
 
-// The verdict, where all lengths are right.
+// The verdict, where all lengths are right. Those of the other judgements differ in the check alone. One function that takes the
+// check as a closure was tried: its caller does not learn what the closure makes of the evidence.
 pub(crate) fn own_verdict<R: Rule>(
     recording: &Recording,
     rule: &R,

@@ -34,7 +34,7 @@ pub fn judge_session(
     Ok(session_verdict(recording, seen, working, evidence))
 }
 
-// The verdict, where all lengths are right.
+// The verdict, where all lengths are right; why it is not one with `own_verdict` stands there.
 pub(crate) fn session_verdict(
     recording: &Recording,
     seen: &mut [u64; WORDS],

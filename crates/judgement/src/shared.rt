@@ -34,7 +34,7 @@ pub fn judge_shared<R: Rule>(
     Ok(shared_verdict(recording, rule, seen, working, evidence))
 }
 
-// The verdict, where all lengths are right.
+// The verdict, where all lengths are right; why it is not one with `own_verdict` stands there.
 fn shared_verdict<R: Rule>(
     recording: &Recording,
     rule: &R,
