@@ -16,7 +16,7 @@ use crate::stale::last_of;
 use recording::Recording;
 use relation::order_or_cycle;
 use rows::{Table, WORDS};
-use sessions::{Listed, StationView, station_reads};
+use sessions::{Listed, StationView};
 use violations::View;
 
 /// Puts a lawful listing of the station's last operation at the front of `evidence`, and answers its length, which is 0 for a
@@ -79,7 +79,7 @@ fn list_past(
     here.put_happened(working);
     let listed = Listed {
         happened: Table { words: working },
-        reads: station_reads(here.view.recording, here.last),
+        reads: here.reads(),
     };
     order_or_cycle(&listed, here.past(), evidence).unwrap()
 }

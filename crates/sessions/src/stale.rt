@@ -4,7 +4,6 @@ ghost use Rattle.violations.specs.Views.{operations_of, seen_of};
 ghost use Rattle.sessions.specs.Happening.{HbInitRead, CyclicHb};
 
 use crate::station_view::StationView;
-use crate::stations::station_reads;
 use violations::{Pair, Rivals};
 
 impl StationView<'_, '_> {
@@ -12,8 +11,7 @@ impl StationView<'_, '_> {
     pub fn hb_init_read(self) -> Option<Pair>
         ensures { SmallestPair (HbInitRead (operations_of self.entry.view) self.entry.last (seen_of self.entry.view)) result }
     {
-        let reads = station_reads(self.view.recording, self.last);
-        self.view.init_read(reads)
+        self.view.init_read(self.reads())
     }
 
     /// The smallest read of the station of `last` with a source before which another write of its register has happened, and that
@@ -21,8 +19,8 @@ impl StationView<'_, '_> {
     pub fn cyclic_hb(self) -> Option<Rivals>
         ensures { SmallestRivals (CyclicHb (operations_of self.entry.view) self.entry.last (seen_of self.entry.view)) result }
     {
-        let reads = station_reads(self.view.recording, self.last);
         let happened = self.view.seen;
-        self.view.overtaken(reads, |source| happened.row(source))
+        self.view
+            .overtaken(self.reads(), |source| happened.row(source))
     }
 }

@@ -11,7 +11,7 @@ unwrap-requires c =
     let v = c.args.here.view in
     let r = v.recording.now in
     always_listed (operations_of v) (valid_of r) (few_of r) (seen_of v) c.requires.least c.requires.session_explains c.args.here.last c.requires.last (related c.put_happened.new.table)
-    (c.put_happened.ensures.happened (record { long = search rules; inside = c.requires.last.inside; within = c.requires.least.within })) (member c.station_reads.result) (member c.past.result) c.station_reads.ensures c.past.ensures
+    (c.put_happened.ensures.happened (record { long = search rules; inside = c.requires.last.inside; within = c.requires.least.within })) (member c.reads.result) (member c.past.result) c.reads.ensures c.past.ensures
     c.args.evidence.now c.order_or_cycle.new.out (search rules) c.order_or_cycle.result c.order_or_cycle.ensures.found c.order_or_cycle.ensures.exactly
 
 pub returns : goal.returns
@@ -19,10 +19,10 @@ returns c =
     let v = c.args.here.view in
     let r = v.recording.now in
     let H = related c.put_happened.new.table in
-    let reads = member c.station_reads.result in
+    let reads = member c.reads.result in
     let M = member c.past.result in
     let long : length c.order_or_cycle.new.out ≡ 256 = search rules in
     listed_past (operations_of v) (valid_of r) (few_of r) (seen_of v) c.requires.least c.requires.session_explains c.args.here.last c.requires.last H
-    (c.put_happened.ensures.happened (record { long = search rules; inside = c.requires.last.inside; within = c.requires.least.within })) reads M c.station_reads.ensures c.past.ensures c.args.evidence.now
+    (c.put_happened.ensures.happened (record { long = search rules; inside = c.requires.last.inside; within = c.requires.least.within })) reads M c.reads.ensures c.past.ensures c.args.evidence.now
     c.order_or_cycle.new.out (search rules) long c.unwrap.result
     (subst (Found (λ a b. H a b || (reads a && (ltb b 256 && (not (eqb b a) && not (H b a))))) M c.args.evidence.now c.order_or_cycle.new.out) c.unwrap.ensures c.order_or_cycle.ensures.found)
