@@ -4,7 +4,7 @@ ghost use Rattle.std.proofs.Common.{rules};
 
 use recording::Recording;
 use rows::Table;
-use visibility::{Outline, Rule, least_visibility};
+use visibility::{Rule, Sight, least_visibility};
 
 // What sees is seen.
 #[derive(Clone, Copy)]
@@ -17,8 +17,8 @@ impl Rule for Mirror {
 
     ghost grows = { Prim.search rules };
 
-    fn asks(&self, outline: &Outline, seen: Table<'_>, a: usize, b: usize) -> bool {
-        a < outline.count() && b < outline.count() && seen.pair(b, a)
+    fn asks(&self, sight: Sight<'_, '_>, a: usize, b: usize) -> bool {
+        a < sight.outline.count() && b < sight.outline.count() && sight.seen.pair(b, a)
     }
 
     fn label(&self) -> u8 {

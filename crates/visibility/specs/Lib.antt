@@ -1,5 +1,6 @@
 pub mod Shapes
 pub mod Growth
+pub mod Sights
 pub mod Visible
 pub mod Late
 pub mod Few

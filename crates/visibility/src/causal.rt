@@ -2,11 +2,11 @@
 ghost use Rattle.visibility.specs.Visible.{CausalDemand};
 ghost use Rattle.std.proofs.Common.{rules};
 
-use crate::outline::Outline;
 use crate::rule::Rule;
+use crate::sight::Sight;
 use relation::Relation;
 use relation::image::image;
-use rows::{Row, Table};
+use rows::Row;
 
 const LABEL: u8 = 1;
 
@@ -21,20 +21,20 @@ impl Rule for Causal {
 
     ghost grows = { Prim.search rules };
 
-    fn asks(&self, outline: &Outline, seen: Table<'_>, a: usize, b: usize) -> bool {
-        self.demanded(outline, seen, a).contains(b)
+    fn asks(&self, sight: Sight<'_, '_>, a: usize, b: usize) -> bool {
+        self.demanded(sight, a).contains(b)
     }
 
     fn label(&self) -> u8 {
         LABEL
     }
 
-    fn demanded(&self, outline: &Outline, seen: Table<'_>, a: usize) -> Row {
-        let count = outline.count();
+    fn demanded(&self, sight: Sight<'_, '_>, a: usize) -> Row {
+        let count = sight.outline.count();
         if a < count {
             // `Happening` of the sessions differs in one operand, and says why it stands apart.
-            let through = image(&seen, seen.row(a)).intersection(Row::below(count));
-            outline.later(a).union(through)
+            let through = image(&sight.seen, sight.seen.row(a)).intersection(Row::below(count));
+            sight.outline.later(a).union(through)
         } else {
             Row::empty()
         }

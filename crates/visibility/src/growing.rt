@@ -8,6 +8,7 @@ ghost use Rattle.visibility.specs.Visible.{Asked};
 
 use crate::outline::Outline;
 use crate::rule::Rule;
+use crate::sight::Sight;
 use rows::{Table, put_row};
 
 // The words of a table.
@@ -51,9 +52,9 @@ fn grow_row<R: Rule>(rule: &R, outline: &Outline, table: &mut [u64; WORDS], a: u
     requires { a < 256 }
     ensures { Grown (Asked (R.demands rule.now) (shapes_of outline.now)) a (a + 1) table.old table.new result }
 {
-    let view = Table { words: table };
-    let old = view.row(a);
-    let new = old.union(rule.demanded(outline, view, a));
+    let seen = Table { words: table };
+    let old = seen.row(a);
+    let new = old.union(rule.demanded(Sight { outline, seen }, a));
     if new.same(old) {
         return false;
     }

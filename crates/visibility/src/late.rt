@@ -2,9 +2,9 @@
 ghost use Rattle.std.specs.Prelude.{◌≤◌};
 ghost use Rattle.visibility.specs.Visible.{LateDemand};
 
-use crate::outline::Outline;
 use crate::rule::Rule;
-use rows::{Row, Table};
+use crate::sight::Sight;
+use rows::Row;
 
 mod making;
 
@@ -31,16 +31,16 @@ impl Rule for Late {
 
     ghost grows = { λ _ _ _ _ _ _ _ d. d };
 
-    fn asks(&self, outline: &Outline, seen: Table<'_>, a: usize, b: usize) -> bool {
-        self.demanded(outline, seen, a).contains(b)
+    fn asks(&self, sight: Sight<'_, '_>, a: usize, b: usize) -> bool {
+        self.demanded(sight, a).contains(b)
     }
 
     fn label(&self) -> u8 {
         LABEL
     }
 
-    fn demanded(&self, outline: &Outline, _seen: Table<'_>, a: usize) -> Row {
-        let mut later = outline.later(a).members();
+    fn demanded(&self, sight: Sight<'_, '_>, a: usize) -> Row {
+        let mut later = sight.outline.later(a).members();
         // Not by `skip`, since what is wanted is the set that is left.
         for _ in 1..self.distance {
             later.next();

@@ -9,6 +9,7 @@ pub mod late;
 pub mod least;
 pub mod outline;
 pub mod rule;
+pub mod sight;
 pub mod terms;
 
 pub use causal::Causal;
@@ -17,4 +18,5 @@ pub use late::{Late, LateRefusal};
 pub use least::least_visibility;
 pub use outline::{Outline, Shape};
 pub use rule::Rule;
+pub use sight::Sight;
 pub use terms::{Misspelled, TermList};

@@ -1,13 +1,13 @@
 //! What a visibility rule is: which pairs it demands, given the outline of a recording and a visibility.
 ghost use Rattle.std.specs.Prelude.{◌≡◌, ℕ, Bool, List, Decides};
-ghost use Rattle.rows.specs.Members.{member, related};
+ghost use Rattle.rows.specs.Members.{member};
 ghost use Rattle.visibility.specs.Growth.{Inside};
 ghost use Rattle.visibility.specs.declared.outline.Shape.{Shape};
-ghost use Rattle.visibility.specs.Shapes.{shapes_of};
+ghost use Rattle.visibility.specs.Sights.{shapes_in, seen_in};
 ghost use Rattle.visibility.specs.Visible.{Asked};
 
-use crate::outline::Outline;
-use rows::{Row, Table};
+use crate::sight::Sight;
+use rows::Row;
 
 /// A visibility rule. Whoever writes one owes what it demands, its law, `asks` and `label`.
 pub trait Rule {
@@ -19,8 +19,8 @@ pub trait Rule {
 
     /// Whether the pair is demanded; beyond the operations no pair is.
     // No default by `demanded`, whose own is by `asks`: such a ring proves, but is named under `hides`, which the gate refuses.
-    fn asks(&self, outline: &Outline, seen: Table<'_>, a: usize, b: usize) -> bool
-        ensures { Decides result (Asked (demands self.now) (shapes_of outline.now) (related seen.entry.words.now) a b) };
+    fn asks(&self, sight: Sight<'_, '_>, a: usize, b: usize) -> bool
+        ensures { Decides result (Asked (demands self.now) (shapes_in sight.entry) (seen_in sight.entry) a b) };
 
     /// The rule's label, 0 to 255.
     // A number and no enum: whoever writes a rule gives it a label of their own.
@@ -28,10 +28,10 @@ pub trait Rule {
         ensures { result ≡ known self.now };
 
     /// All operations that have to see `a`.
-    fn demanded(&self, outline: &Outline, seen: Table<'_>, a: usize) -> Row
-        ensures { (b : ℕ) → Decides (member result b) (Asked (demands self.now) (shapes_of outline.now) (related seen.entry.words.now) a b) }
+    fn demanded(&self, sight: Sight<'_, '_>, a: usize) -> Row
+        ensures { (b : ℕ) → Decides (member result b) (Asked (demands self.now) (shapes_in sight.entry) (seen_in sight.entry) a b) }
     {
-        Row::below(256).filter(|b| self.asks(outline, seen, a, b))
+        Row::below(256).filter(|b| self.asks(sight, a, b))
     }
 
     /// The law: what is demanded under a visibility is demanded under every one that contains it.

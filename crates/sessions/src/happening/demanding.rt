@@ -1,7 +1,7 @@
 //! What the rule demands: what comes before what comes before, and a write before the source of a read that it is before.
 ghost use Rattle.std.specs.Prelude.{ℕ, ◌<◌, length, Decides};
 ghost use Rattle.rows.specs.Members.{member, related};
-ghost use Rattle.visibility.specs.Shapes.{shapes_of};
+ghost use Rattle.visibility.specs.Sights.{shapes_in, seen_in};
 ghost use Rattle.sessions.specs.Deriving.{Derives, HappeningDemand};
 ghost use Rattle.std.proofs.Common.{rules};
 
@@ -10,7 +10,7 @@ use recording::Kind;
 use relation::Relation;
 use relation::image::image;
 use rows::{Row, Table};
-use visibility::{Outline, Rule};
+use visibility::{Rule, Sight};
 
 const LABEL: u8 = 0;
 
@@ -21,20 +21,20 @@ impl Rule for Happening {
 
     ghost grows = { Prim.search rules };
 
-    fn asks(&self, outline: &Outline, seen: Table<'_>, a: usize, b: usize) -> bool {
-        self.demanded(outline, seen, a).contains(b)
+    fn asks(&self, sight: Sight<'_, '_>, a: usize, b: usize) -> bool {
+        self.demanded(sight, a).contains(b)
     }
 
     fn label(&self) -> u8 {
         LABEL
     }
 
-    fn demanded(&self, outline: &Outline, seen: Table<'_>, a: usize) -> Row {
-        let count = outline.count();
+    fn demanded(&self, sight: Sight<'_, '_>, a: usize) -> Row {
+        let count = sight.outline.count();
         if a < count {
             // The causal rule differs in one operand; a function of both would take it as a closure, and be no plainer.
-            let through = image(&seen, seen.row(a)).intersection(Row::below(count));
-            self.derived(outline, seen, a).union(through)
+            let through = image(&sight.seen, sight.seen.row(a)).intersection(Row::below(count));
+            self.derived(sight, a).union(through)
         } else {
             Row::empty()
         }
@@ -43,23 +43,23 @@ impl Rule for Happening {
 
 impl Happening {
     // The sources that the write `a` has to come before.
-    fn derived(&self, outline: &Outline, seen: Table<'_>, a: usize) -> Row
-        requires { a < length (shapes_of outline.now) }
-        ensures { (w : ℕ) → Decides (member result w) (Derives (related self.now.words) (shapes_of outline.now) (related seen.entry.words.now) a w) }
+    fn derived(&self, sight: Sight<'_, '_>, a: usize) -> Row
+        requires { a < length (shapes_in sight) }
+        ensures { (w : ℕ) → Decides (member result w) (Derives (related self.now.words) (shapes_in sight.entry) (seen_in sight.entry) a w) }
     {
-        Row::below(outline.count()).filter(|source| self.derives(outline, seen, a, source))
+        Row::below(sight.outline.count()).filter(|source| self.derives(sight, a, source))
     }
 
     // Whether `a` is another write of the register of `source`, and before a read whose source that is.
-    fn derives(&self, outline: &Outline, seen: Table<'_>, a: usize, source: usize) -> bool
-        requires write_inside { a < length (shapes_of outline.now) }
-        requires source_inside { source < length (shapes_of outline.now) }
-        ensures { Decides result (Derives (related self.now.words) (shapes_of outline.now) (related seen.entry.words.now) a source) }
+    fn derives(&self, sight: Sight<'_, '_>, a: usize, source: usize) -> bool
+        requires write_inside { a < length (shapes_in sight) }
+        requires source_inside { source < length (shapes_in sight) }
+        ensures { Decides result (Derives (related self.now.words) (shapes_in sight.entry) (seen_in sight.entry) a source) }
     {
-        let Some(write) = outline.shape(a) else {
+        let Some(write) = sight.outline.shape(a) else {
             return false;
         };
-        let Some(other) = outline.shape(source) else {
+        let Some(other) = sight.outline.shape(source) else {
             return false;
         };
         let readers = Table { words: &self.words };
@@ -68,7 +68,7 @@ impl Happening {
             && a != source
             && readers
                 .row(source)
-                .intersection(seen.row(a))
+                .intersection(sight.seen.row(a))
                 .first()
                 .is_some()
     }

@@ -1,16 +1,18 @@
 //! The pairs that a term list demands, by whole rows.
 ghost use Rattle.std.specs.Prelude.{◌≡◌, ℕ, ◌<◌, true, Decides};
-ghost use Rattle.rows.specs.Members.{member, related};
+ghost use Rattle.rows.specs.Members.{member};
 ghost use Rattle.visibility.specs.Shapes.{shapes_of, before};
+ghost use Rattle.visibility.specs.Sights.{shapes_in, seen_in};
 ghost use Rattle.visibility.specs.Terms.{term_of, Step, Walk, TermDemand};
 ghost use Rattle.visibility.specs.Walks.{walk_grows};
 
 use crate::outline::Outline;
 use crate::rule::Rule;
+use crate::sight::Sight;
 use crate::terms::{Letter, TermList};
 use relation::Relation;
 use relation::image::image;
-use rows::{Row, Table};
+use rows::Row;
 
 const LABEL: u8 = 2;
 
@@ -35,45 +37,50 @@ impl Rule for TermList {
 
     ghost grows = { λ s f u v i a b d. (d.0, d.1, walk_grows f u v i (term_of s d.0) a b d.2) };
 
-    fn asks(&self, outline: &Outline, seen: Table<'_>, a: usize, b: usize) -> bool {
-        self.demanded(outline, seen, a).contains(b)
+    fn asks(&self, sight: Sight<'_, '_>, a: usize, b: usize) -> bool {
+        self.demanded(sight, a).contains(b)
     }
 
     fn label(&self) -> u8 {
         LABEL
     }
 
-    fn demanded(&self, outline: &Outline, seen: Table<'_>, a: usize) -> Row {
-        let count = outline.count();
+    fn demanded(&self, sight: Sight<'_, '_>, a: usize) -> Row {
+        let count = sight.outline.count();
         if a >= count {
             return Row::empty();
         }
         let mut all = Row::empty();
         for term in self.terms.iter() {
-            all = all.union(reach(term, outline, seen, a));
+            all = all.union(reach(term, sight, a));
         }
         all.intersection(Row::below(count))
     }
 }
 
 // What the steps by some letters join `a` to.
-fn reach(letters: &[Letter], outline: &Outline, seen: Table<'_>, a: usize) -> Row
+fn reach(letters: &[Letter], sight: Sight<'_, '_>, a: usize) -> Row
     requires { a < 256 }
-    ensures { (b : ℕ) → Decides (member result b) (Walk (shapes_of outline.now) (related seen.entry.words.now) letters.now a b) }
+    ensures { (b : ℕ) → Decides (member result b) (Walk (shapes_in sight.entry) (seen_in sight.entry) letters.now a b) }
 {
     let mut reached = Row::of(a);
     for letter in letters {
-        reached = step(*letter, outline, seen, reached);
+        reached = step(*letter, sight, reached);
     }
     reached
 }
 
 // What one step by a letter leads to from some number of a set.
-fn step(letter: Letter, outline: &Outline, seen: Table<'_>, from: Row) -> Row
-    ensures { (b : ℕ) → Decides (member result b) ((a : ℕ) × (member from a ≡ true) × Step (shapes_of outline.now) (related seen.entry.words.now) letter a b) }
+fn step(letter: Letter, sight: Sight<'_, '_>, from: Row) -> Row
+    ensures { (b : ℕ) → Decides (member result b) ((a : ℕ) × (member from a ≡ true) × Step (shapes_in sight.entry) (seen_in sight.entry) letter a b) }
 {
     match letter {
-        Letter::Station => image(&StationOrder { outline }, from),
-        Letter::Seen => image(&seen, from),
+        Letter::Station => image(
+            &StationOrder {
+                outline: sight.outline,
+            },
+            from,
+        ),
+        Letter::Seen => image(&sight.seen, from),
     }
 }

@@ -1,9 +1,9 @@
 use Rattle.std.proofs.Common.{rules, ◌≡◌, List, [], Decides, length, ap, sym, subst, arith}
 use Rattle.std.proofs.lemmas.List.{get_or-map}
-use Rattle.rows.specs.Members.{member, related}
+use Rattle.rows.specs.Members.{member}
 use Rattle.visibility.specs.declared.terms.Letter.{Letter}
 use Rattle.visibility.specs.Few.{items_of}
-use Rattle.visibility.specs.Shapes.{shapes_of}
+use Rattle.visibility.specs.Sights.{shapes_in, seen_in}
 use Rattle.visibility.specs.Terms.{term_of, Walk}
 use Rattle.visibility.proofs.Walks.{joined_more}
 use Rattle.visibility.proofs.terms.walking.TermListRule.demanded.Goals as goal
@@ -19,7 +19,7 @@ loop-term-preserved c =
     record {
       terms = terms;
       joined = λ b.
-          let joins : List Letter → Type 0 = λ ls. Walk (shapes_of c.args.outline.now) (related c.args.seen.words.now) ls c.args.a b in
+          let joins : List Letter → Type 0 = λ ls. Walk (shapes_in c.args.sight) (seen_in c.args.sight) ls c.args.a b in
           let one : Decides (member c.reach.result b) (joins term) = search rules in
           joined_more (λ k. joins (term_of t k)) n (member c.loop-term.all b) (member c.reach.result b) (member c.union-all.result b)
           (c.loop-term.invariant.joined b) (subst (λ ls. Decides (member c.reach.result b) (joins ls)) (sym here) one) (c.union-all.ensures b);
