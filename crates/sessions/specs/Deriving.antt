@@ -7,6 +7,7 @@ use Rattle.rows.specs.Members.{related}
 use Rattle.visibility.specs.declared.outline.Shape.{Shape}
 use Rattle.visibility.specs.Growth.{Rel}
 use Rattle.visibility.specs.Shapes.{shape_at}
+use Rattle.visibility.specs.Visible.{Through}
 use Rattle.sessions.specs.Listings.{Past, StationRead}
 
 -- x is a write of w's register other than w, and before a read whose source is w
@@ -21,7 +22,7 @@ pub record Derives (readers : Rel) (f : List Shape) (v : Rel) (x w : ℕ) : Type
 
 -- what is demanded: what comes before what comes before, and such a write before the source
 abbrev pub HappeningDemand : Rel → List Shape → Rel → ℕ → ℕ → Type 0
-HappeningDemand readers f v a b = ((c : ℕ) × (v a c ≡ true) × (v c b ≡ true)) ⊎ Derives readers f v a b
+HappeningDemand readers f v a b = Through v a b ⊎ Derives readers f v a b
 
 -- a table holds (source, read) for each read below n of o's station with a source, and nothing else
 pub record Readers (ops : List Operation) (o n : ℕ) (t : List ℕ) : Type 0 where

@@ -14,9 +14,13 @@ pub record Asked (D : List Shape → Rel → ℕ → ℕ → Type 0) (f : List S
   pub second : b < length f
   pub demanded : D f v a b
 
+-- some c sees a and is seen by b
+abbrev pub Through : Rel → ℕ → ℕ → Type 0
+Through v a b = (c : ℕ) × (v a c ≡ true) × (v c b ≡ true)
+
 -- what the causal rule demands: station order, and (a, b) if some c sees a and is seen by b
 abbrev pub CausalDemand : List Shape → Rel → ℕ → ℕ → Type 0
-CausalDemand f v a b = (before f a b ≡ true) ⊎ ((c : ℕ) × (v a c ≡ true) × (v c b ≡ true))
+CausalDemand f v a b = (before f a b ≡ true) ⊎ Through v a b
 
 -- what the late rule demands: b comes at least that many places after a in their common station
 abbrev pub LateDemand : ℕ → List Shape → ℕ → ℕ → Type 0

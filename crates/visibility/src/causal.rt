@@ -4,8 +4,6 @@ ghost use Rattle.std.proofs.Common.{rules};
 
 use crate::rule::Rule;
 use crate::sight::Sight;
-use relation::Relation;
-use relation::image::image;
 use rows::Row;
 
 const LABEL: u8 = 1;
@@ -30,13 +28,6 @@ impl Rule for Causal {
     }
 
     fn demanded(&self, sight: Sight<'_, '_>, a: usize) -> Row {
-        let count = sight.outline.count();
-        if a < count {
-            // `Happening` of the sessions differs in one operand, and says why it stands apart.
-            let through = image(&sight.seen, sight.seen.row(a)).intersection(Row::below(count));
-            sight.outline.later(a).union(through)
-        } else {
-            Row::empty()
-        }
+        sight.outline.later(a).union(sight.through(a))
     }
 }

@@ -2,13 +2,12 @@
 ghost use Rattle.std.specs.Prelude.{ℕ, ◌<◌, length, Decides};
 ghost use Rattle.rows.specs.Members.{member, related};
 ghost use Rattle.visibility.specs.Sights.{shapes_in, seen_in};
+ghost use Rattle.visibility.specs.Visible.{Asked};
 ghost use Rattle.sessions.specs.Deriving.{Derives, HappeningDemand};
 ghost use Rattle.std.proofs.Common.{rules};
 
 use crate::happening::Happening;
 use recording::Kind;
-use relation::Relation;
-use relation::image::image;
 use rows::{Row, Table};
 use visibility::{Rule, Sight};
 
@@ -30,31 +29,21 @@ impl Rule for Happening {
     }
 
     fn demanded(&self, sight: Sight<'_, '_>, a: usize) -> Row {
-        let count = sight.outline.count();
-        if a < count {
-            // The causal rule differs in one operand; a function of both would take it as a closure, and be no plainer.
-            let through = image(&sight.seen, sight.seen.row(a)).intersection(Row::below(count));
-            self.derived(sight, a).union(through)
-        } else {
-            Row::empty()
-        }
+        self.derived(sight, a).union(sight.through(a))
     }
 }
 
 impl Happening {
     // The sources that the write `a` has to come before.
     fn derived(&self, sight: Sight<'_, '_>, a: usize) -> Row
-        requires { a < length (shapes_in sight) }
-        ensures { (w : ℕ) → Decides (member result w) (Derives (related self.now.words) (shapes_in sight.entry) (seen_in sight.entry) a w) }
+        ensures { (w : ℕ) → Decides (member result w) (Asked (Derives (related self.now.words)) (shapes_in sight.entry) (seen_in sight.entry) a w) }
     {
         Row::below(sight.outline.count()).filter(|source| self.derives(sight, a, source))
     }
 
     // Whether `a` is another write of the register of `source`, and before a read whose source that is.
     fn derives(&self, sight: Sight<'_, '_>, a: usize, source: usize) -> bool
-        requires write_inside { a < length (shapes_in sight) }
-        requires source_inside { source < length (shapes_in sight) }
-        ensures { Decides result (Derives (related self.now.words) (shapes_in sight.entry) (seen_in sight.entry) a source) }
+        ensures { Decides result (Asked (Derives (related self.now.words)) (shapes_in sight.entry) (seen_in sight.entry) a source) }
     {
         let Some(write) = sight.outline.shape(a) else {
             return false;
