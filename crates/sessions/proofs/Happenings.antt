@@ -8,10 +8,10 @@ use Rattle.rows.specs.Members.{related}
 use Rattle.visibility.specs.declared.outline.Shape.{Shape}
 use Rattle.visibility.specs.Growth.{Rel, Inside, Least}
 use Rattle.visibility.specs.Shapes.{shape, shape_at, no_shape}
-use Rattle.visibility.specs.Visible.{Asked}
+use Rattle.visibility.specs.Visible.{Asked, SourceTable}
 use Rattle.violations.specs.Explained.{In}
 use Rattle.violations.specs.Violations.{Rival}
-use Rattle.sessions.specs.Deriving.{Derives, HappeningDemand, Readers, PastTable}
+use Rattle.sessions.specs.Deriving.{Derives, HappeningDemand, PastTable}
 use Rattle.sessions.specs.Happening.{HappensBefore}
 use Rattle.sessions.specs.Listings.{Past, StationRead}
 
@@ -19,7 +19,7 @@ demand_wider : (R : Rel) (f : List Shape) (u v : Rel) → Inside u v → (a b : 
 demand_wider R f u v i a b (inl t) = inl (t.0, i a t.0 t.1, i t.0 b t.2)
 demand_wider R f u v i a b (inr d) = inr (record { inside = d.inside; is_write = d.is_write; register = d.register; other = d.other; read = d.read; source = d.source; before = i a d.read d.before })
 
-module _ (ops : List Operation) (V : Rel) (o : ℕ) (inside : o < length ops) (within : (a b : ℕ) → V a b ≡ true → (a < length ops) × (b < length ops)) (words t : List ℕ) (readers : Readers ops o (length ops) words)
+module _ (ops : List Operation) (V : Rel) (o : ℕ) (inside : o < length ops) (within : (a b : ℕ) → V a b ≡ true → (a < length ops) × (b < length ops)) (words t : List ℕ) (readers : SourceTable ops (StationRead ops o) words)
     (past : PastTable ops V o t) (Q : Rel) (least : Least (Asked (HappeningDemand (related words)) (map shape ops)) (related t) Q) where
   shapes : length (map shape ops) ≡ length ops
   shapes = length-map ops shape
@@ -63,14 +63,14 @@ module _ (ops : List Operation) (V : Rel) (o : ℕ) (inside : o < length ops) (w
         register = ap (λ s. s.register) (shape_of_at x here) ∙ v.sees.register ∙ sym v.source.gives.register ∙ sym (ap (λ s. s.register) (shape_of_at w there));
         other = v.other;
         read = r;
-        source = readers.whole w r k.is_read.inside v.source k;
+        source = readers.whole w r k v.source;
         before = v.sees.seen;
       }
 
   rivals : (u : Rel) (x w : ℕ) → x < length ops → w < length ops → (d : Derives (related words) (map shape ops) u x w) → StationRead ops o d.read × Rival ops u d.read w x
   rivals u x w h k d =
       let s = readers.sound w d.read d.source in (
-        s.2,
+        s.0,
         record {
           source = s.1;
           sees = record {

@@ -2,13 +2,12 @@
 use Rattle.std.specs.Prelude.{◌≡◌, ℕ, ◌<◌, true, ◌≢◌, ◌⊎◌, List, length}
 use Rattle.recording.specs.declared.operation.Kind.TheVariants.{Write}
 use Rattle.recording.specs.declared.operation.Operation.{Operation}
-use Rattle.recording.specs.Operations.{SourceOf}
 use Rattle.rows.specs.Members.{related}
 use Rattle.visibility.specs.declared.outline.Shape.{Shape}
 use Rattle.visibility.specs.Growth.{Rel}
 use Rattle.visibility.specs.Shapes.{shape_at}
 use Rattle.visibility.specs.Visible.{Through}
-use Rattle.sessions.specs.Listings.{Past, StationRead}
+use Rattle.sessions.specs.Listings.{Past}
 
 -- x is a write of w's register other than w, and before a read whose source is w
 pub record Derives (readers : Rel) (f : List Shape) (v : Rel) (x w : ℕ) : Type 0 where
@@ -23,12 +22,6 @@ pub record Derives (readers : Rel) (f : List Shape) (v : Rel) (x w : ℕ) : Type
 -- what is demanded: what comes before what comes before, and such a write before the source
 abbrev pub HappeningDemand : Rel → List Shape → Rel → ℕ → ℕ → Type 0
 HappeningDemand readers f v a b = Through v a b ⊎ Derives readers f v a b
-
--- a table holds (source, read) for each read below n of o's station with a source, and nothing else
-pub record Readers (ops : List Operation) (o n : ℕ) (t : List ℕ) : Type 0 where
-  pub long : length t ≡ 1024
-  pub sound : (w r : ℕ) → related t w r ≡ true → (r < n) × SourceOf ops w r × StationRead ops o r
-  pub whole : (w r : ℕ) → r < n → SourceOf ops w r → StationRead ops o r → related t w r ≡ true
 
 -- an operation that is o, or that o sees
 pub record PastOperation (ops : List Operation) (V : Rel) (o a : ℕ) : Type 0 where

@@ -7,11 +7,8 @@ ghost use Rattle.sessions.specs.Happening.{HappensBefore};
 
 use crate::happening::Happening;
 use crate::station_view::StationView;
-use rows::{Row, clear, put_row};
+use rows::{Row, WORDS, clear, put_row};
 use visibility::{Outline, grow};
-
-// The words of a table.
-const WORDS: usize = 1024;
 
 impl StationView<'_, '_> {
     /// Makes a table of 1,024 words the smallest transitive relation that holds what is seen among the operation `last` and all

@@ -2,10 +2,10 @@
 #![tactic(auto)]
 
 use recording::Recording;
-use rows::put_pair;
+use rows::{Row, WORDS};
 use std::io;
 use std::time::Instant;
-use visibility::{Causal, Late, Outline, Rule, TermList, sweep};
+use visibility::{Causal, Late, Outline, Rule, TermList, put_sources, sweep};
 
 // Half reads, then the writes that they read: each station reads what the one before it writes later.
 fn chain(operations: u32) -> Recording {
@@ -18,15 +18,6 @@ fn chain(operations: u32) -> Recording {
         let _ = recording.write(k % 16, k % 64, k + 1);
     }
     recording
-}
-
-// Puts the pair of each read and its source.
-fn put_sources(recording: &Recording, words: &mut [u64]) {
-    for read in 0..recording.count() {
-        if let Ok(Some(write)) = recording.source(read) {
-            put_pair(words, write, read);
-        }
-    }
 }
 
 // One sweep more than there are pairs to find.
@@ -48,8 +39,8 @@ fn print_growth<R: Rule>(
 ) -> io::Result<()> {
     let recording = chain(operations);
     let outline = Outline::from(&recording);
-    let mut words = [0u64; 1024];
-    put_sources(&recording, &mut words);
+    let mut words = [0u64; WORDS];
+    put_sources(&recording, Row::below(recording.count()), &mut words);
     let start = Instant::now(rt)?;
     let sweeps = count_sweeps(rule, &outline, &mut words);
     let micros = start.elapsed(rt)?.as_micros();

@@ -7,10 +7,10 @@ use Rattle.rows.specs.Members.{related}
 use Rattle.visibility.specs.declared.outline.Shape.{Shape}
 use Rattle.visibility.specs.Growth.{Rel, Inside, Least}
 use Rattle.visibility.specs.Shapes.{shape}
-use Rattle.visibility.specs.Visible.{Asked, IsLeast, Sources}
+use Rattle.visibility.specs.Visible.{Asked, IsLeast, SourceTable}
 
 module _ (D : List Shape → Rel → ℕ → ℕ → Type 0) (law : (f : List Shape) (u v : Rel) → Inside u v → (a b : ℕ) → D f u a b → D f v a b)
-    (ops : List Operation) (t : List ℕ) (Q : Rel) (s : Sources ops (length ops) t) (least : Least (Asked D (map shape ops)) (related t) Q) where
+    (ops : List Operation) (t : List ℕ) (Q : Rel) (P : ℕ → Type 0) (all : (r : ℕ) → r < length ops → P r) (s : SourceTable ops P t) (least : Least (Asked D (map shape ops)) (related t) Q) where
   -- Q, between operations only
   cut : Rel
   cut a b = Q a b && (ltb a (length ops) && ltb b (length ops))
@@ -34,13 +34,13 @@ module _ (D : List Shape → Rel → ℕ → ℕ → Type 0) (law : (f : List Sh
 
   inside : Inside Q cut
   inside = least.least cut
-      (λ a b h. let e = s.sound a b h in cut_made a b (least.holds a b h) e.1.gives.is_write.inside e.0)
+      (λ a b h. let e = s.sound a b h in cut_made a b (least.holds a b h) e.1.gives.is_write.inside e.1.is_read.inside)
       (λ a b d. cut_made a b (least.closed a b (record { first = d.first; second = d.second; demanded = law (map shape ops) cut Q cut_inside a b d.demanded })) (omega (arith, d.first, long)) (omega (arith, d.second, long)))
 
   pub is_least : IsLeast D ops Q
   is_least = record {
     within = λ a b h. cut_ends a b (inside a b h);
-    sources = λ w r h. least.holds w r (s.whole w r h.is_read.inside h);
+    sources = λ w r h. least.holds w r (s.whole w r (all r h.is_read.inside) h);
     closed = least.closed;
     least = λ u hu cu. least.least u (λ a b h. hu a b (s.sound a b h).1) cu;
   }

@@ -2,6 +2,7 @@ pub mod Below
 pub mod Stations
 pub mod Lates
 pub mod Rounds
+pub mod Gatherings
 pub mod Leasts
 pub mod Walks
 pub mod Spelled

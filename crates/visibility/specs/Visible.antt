@@ -34,8 +34,8 @@ pub record IsLeast (D : List Shape → Rel → ℕ → ℕ → Type 0) (ops : Li
   pub closed : (a b : ℕ) → Asked D (map shape ops) V a b → V a b ≡ true
   pub least : (u : Rel) → ((w r : ℕ) → SourceOf ops w r → u w r ≡ true) → ((a b : ℕ) → Asked D (map shape ops) u a b → u a b ≡ true) → Inside V u
 
--- a table holds (source, read) for each read below n with a source, and nothing else
-pub record Sources (ops : List Operation) (n : ℕ) (t : List ℕ) : Type 0 where
+-- a table holds (source, read) for each of the reads P that has a source, and nothing else
+pub record SourceTable (ops : List Operation) (P : ℕ → Type 0) (t : List ℕ) : Type 0 where
   pub long : length t ≡ 1024
-  pub sound : (a b : ℕ) → related t a b ≡ true → (b < n) × SourceOf ops a b
-  pub whole : (a b : ℕ) → b < n → SourceOf ops a b → related t a b ≡ true
+  pub sound : (w r : ℕ) → related t w r ≡ true → P r × SourceOf ops w r
+  pub whole : (w r : ℕ) → P r → SourceOf ops w r → related t w r ≡ true

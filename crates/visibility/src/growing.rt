@@ -9,10 +9,7 @@ ghost use Rattle.visibility.specs.Visible.{Asked};
 use crate::outline::Outline;
 use crate::rule::Rule;
 use crate::sight::Sight;
-use rows::{Table, put_row};
-
-// The words of a table.
-pub(crate) const WORDS: usize = 1024;
+use rows::{Table, WORDS, put_row};
 
 /// Adds to a table of 1,024 words what the rule demands, until nothing more is demanded: the least relation that holds
 /// what the table held and all that is demanded under it. Words of another length are left as they are.

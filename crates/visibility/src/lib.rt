@@ -10,6 +10,7 @@ pub mod least;
 pub mod outline;
 pub mod rule;
 pub mod sight;
+pub mod sources;
 pub mod terms;
 
 pub use causal::Causal;
@@ -19,4 +20,5 @@ pub use least::least_visibility;
 pub use outline::{Outline, Shape};
 pub use rule::Rule;
 pub use sight::Sight;
+pub use sources::put_sources;
 pub use terms::{Misspelled, TermList};
