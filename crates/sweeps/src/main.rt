@@ -55,13 +55,9 @@ fn print_growths<R: Rule>(rt: &HostRuntime, name: &str, rule: &R) -> io::Result<
     Ok(())
 }
 
-fn main(rt: HostRuntime) -> io::Result<()> {
+fn main(rt: HostRuntime) -> anyhow::Result<()> {
     print_growths(&rt, "causal", &Causal)?;
-    if let Ok(terms) = TermList::spelled(b"s,vv") {
-        print_growths(&rt, "terms s,vv", &terms)?;
-    }
-    if let Ok(late) = Late::new(4) {
-        print_growths(&rt, "late by 4", &late)?;
-    }
+    print_growths(&rt, "terms s,vv", &TermList::spelled(b"s,vv")?)?;
+    print_growths(&rt, "late by 4", &Late::new(4)?)?;
     Ok(())
 }

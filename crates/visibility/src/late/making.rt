@@ -11,12 +11,10 @@ impl Late {
     pub fn new(distance: u32) -> Result<Late, LateRefusal>
         ensures { LateAnswer distance result }
     {
-        if distance == 0 || distance > 255 {
-            return Err(LateRefusal::Distance);
+        match u8::try_from(distance) {
+            Ok(distance) if distance > 0 => Ok(Late { distance }),
+            _ => Err(LateRefusal::Distance),
         }
-        Ok(Late {
-            distance: distance as u8,
-        })
     }
 }
 
