@@ -1,23 +1,22 @@
 //! Prints how many sweeps the growth of a visibility takes, for each rule and 64, 128 and 256 operations, and on stderr how long.
 #![tactic(auto)]
 
-use recording::Recording;
+use recording::{Recording, Refusal};
 use rows::{Row, WORDS};
-use std::io;
 use std::time::Instant;
 use visibility::{Causal, Late, Outline, Rule, TermList, put_sources, sweep};
 
 // Half reads, then the writes that they read: each station reads what the one before it writes later.
-fn chain(operations: u32) -> Recording {
+fn chain(operations: u32) -> Result<Recording, Refusal> {
     let mut recording = Recording::unstarted();
-    let _ = recording.start(16);
+    recording.start(16)?;
     for k in 0..operations / 2 {
-        let _ = recording.read((k + 1) % 16, k % 64, k + 1);
+        recording.read((k + 1) % 16, k % 64, k + 1)?;
     }
     for k in 0..operations / 2 {
-        let _ = recording.write(k % 16, k % 64, k + 1);
+        recording.write(k % 16, k % 64, k + 1)?;
     }
-    recording
+    Ok(recording)
 }
 
 // One sweep more than there are pairs to find.
@@ -36,8 +35,8 @@ fn print_growth<R: Rule>(
     name: &str,
     rule: &R,
     operations: u32,
-) -> io::Result<()> {
-    let recording = chain(operations);
+) -> anyhow::Result<()> {
+    let recording = chain(operations)?;
     let outline = Outline::from(&recording);
     let mut words = [0u64; WORDS];
     put_sources(&recording, Row::below(recording.count()), &mut words);
@@ -45,10 +44,11 @@ fn print_growth<R: Rule>(
     let sweeps = count_sweeps(rule, &outline, &mut words);
     let micros = start.elapsed(rt)?.as_micros();
     println!(rt; "{name}, {operations} operations: {sweeps} sweeps")?;
-    eprintln!(rt; "{name}, {operations} operations: {micros} microseconds")
+    eprintln!(rt; "{name}, {operations} operations: {micros} microseconds")?;
+    Ok(())
 }
 
-fn print_growths<R: Rule>(rt: &HostRuntime, name: &str, rule: &R) -> io::Result<()> {
+fn print_growths<R: Rule>(rt: &HostRuntime, name: &str, rule: &R) -> anyhow::Result<()> {
     for operations in [64, 128, 256] {
         print_growth(rt, name, rule, operations)?;
     }
@@ -58,6 +58,5 @@ fn print_growths<R: Rule>(rt: &HostRuntime, name: &str, rule: &R) -> io::Result<
 fn main(rt: HostRuntime) -> anyhow::Result<()> {
     print_growths(&rt, "causal", &Causal)?;
     print_growths(&rt, "terms s,vv", &TermList::spelled(b"s,vv")?)?;
-    print_growths(&rt, "late by 4", &Late::new(4)?)?;
-    Ok(())
+    print_growths(&rt, "late by 4", &Late::new(4)?)
 }
