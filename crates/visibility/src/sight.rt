@@ -17,6 +17,8 @@ pub struct Sight<'o, 's> {
 
 impl Sight<'_, '_> {
     /// The operations that see one that sees operation `a`; none where there is no operation `a`.
+    // Inlined, since as a call it makes the causal rule take a third longer.
+    #[inline]
     pub fn through(self, a: usize) -> Row
         ensures { (b : ℕ) → Decides (member result b) (Asked (λ _ v. Through v) (shapes_in self.entry) (seen_in self.entry) a b) }
     {
