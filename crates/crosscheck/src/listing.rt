@@ -1,14 +1,13 @@
 //! Session judgement by trying every listing.
 use crate::pairs::Pairs;
-use crate::seeing::{is_causal, least};
+use crate::seeing::Sight;
 use recording::{Kind, Operation, Recording};
 use std::array;
 
 // The search for a listing for an operation of that station.
 #[derive(Clone, Copy)]
-struct Search<'a> {
-    recording: &'a Recording,
-    seen: &'a Pairs,
+struct Search<'s, 'a> {
+    sight: &'s Sight<'a>,
     station: u8,
 }
 
@@ -21,27 +20,26 @@ struct State {
 
 /// Whether every operation has a listing, under the smallest causal order.
 pub fn try_listings(recording: &Recording) -> bool {
-    let seen = least(recording, is_causal);
-    seen.is_acyclic() && (0..recording.count()).all(|last| has_listing(recording, &seen, last))
+    let sight = Sight::least(recording, |sight, a, b| sight.is_causal(a, b));
+    sight.seen.is_acyclic() && (0..recording.count()).all(|last| has_listing(&sight, last))
 }
 
 // Whether the operation, and all that it sees, can be listed.
-fn has_listing(recording: &Recording, seen: &Pairs, last: usize) -> bool {
-    recording.operation(last).is_some_and(|operation| {
+fn has_listing(sight: &Sight<'_>, last: usize) -> bool {
+    sight.recording.operation(last).is_some_and(|operation| {
         let search = Search {
-            recording,
-            seen,
+            sight,
             station: operation.station,
         };
         let state = State {
-            left: array::from_fn(|a| a == last || seen.has(a, last)),
+            left: array::from_fn(|a| a == last || sight.seen.has(a, last)),
             values: [0; 64],
         };
         search.lists(state, 16)
     })
 }
 
-impl Search<'_> {
+impl Search<'_, '_> {
     // Whether what is left can be listed, in at most so many steps.
     fn lists(self, state: State, steps: usize) -> bool {
         if state.left == [false; 16] {
@@ -61,8 +59,8 @@ impl Search<'_> {
 
     // The state after `a`, if it is left and may be listed next.
     fn listed(self, state: State, a: usize) -> Option<State> {
-        let operation = self.recording.operation(a)?;
-        if state.is_free(self.seen, a) && self.comes_right(operation, state) {
+        let operation = self.sight.recording.operation(a)?;
+        if state.is_free(&self.sight.seen, a) && self.comes_right(operation, state) {
             Some(state.after(a, operation))
         } else {
             None

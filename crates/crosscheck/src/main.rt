@@ -15,9 +15,8 @@ use lent::Lent;
 use listing::try_listings;
 use making::make;
 use ordering::try_orders;
-use pairs::Pairs;
 use recording::Recording;
-use seeing::{is_causal, is_late, walks};
+use seeing::Sight;
 use std::io;
 use tally::Tally;
 use visibility::{Causal, Late, Rule, TermList};
@@ -43,7 +42,7 @@ impl Tallies {
     }
 
     // Judges a recording under a rule, and by the second checker under what the rule demands.
-    fn compare<R: Rule, F: Fn(&Recording, &Pairs, usize, usize) -> bool>(
+    fn compare<R: Rule, F: Fn(&Sight<'_>, usize, usize) -> bool>(
         &mut self,
         recording: &Recording,
         rule: &R,
@@ -72,8 +71,8 @@ impl Tallies {
     // Under a term list, as it is spelled and as its terms.
     fn compare_terms(&mut self, recording: &Recording, spelling: &[u8], terms: &[&[u8]]) {
         if let Ok(rule) = TermList::spelled(spelling) {
-            self.compare(recording, &rule, |recording, seen, a, b| {
-                terms.iter().any(|term| walks(recording, seen, term, a, b))
+            self.compare(recording, &rule, |sight, a, b| {
+                terms.iter().any(|term| sight.walks(term, a, b))
             });
         }
     }
@@ -81,15 +80,15 @@ impl Tallies {
     // Under a late rule.
     fn compare_late(&mut self, recording: &Recording, distance: u32) {
         if let Ok(rule) = Late::new(distance) {
-            self.compare(recording, &rule, |recording, _, a, b| {
-                is_late(recording, distance as usize, a, b)
+            self.compare(recording, &rule, |sight, a, b| {
+                sight.is_late(distance as usize, a, b)
             });
         }
     }
 
     // One recording under every rule.
     fn compare_all(&mut self, recording: &Recording) {
-        self.compare(recording, &Causal, is_causal);
+        self.compare(recording, &Causal, |sight, a, b| sight.is_causal(a, b));
         self.compare_terms(recording, b"", &[]);
         self.compare_terms(recording, b"vs", &[b"vs"]);
         self.compare_terms(recording, b"s,vs,sv", &[b"s", b"vs", b"sv"]);

@@ -1,6 +1,5 @@
 //! Own and shared judgement by trying every order of the writes.
-use crate::pairs::Pairs;
-use crate::seeing::least;
+use crate::seeing::Sight;
 use arrayvec::ArrayVec;
 use recording::{Kind, Recording};
 
@@ -12,34 +11,34 @@ pub struct Tried {
 }
 
 /// Tries every order of the writes under the least visibility that holds what is demanded.
-pub fn try_orders<F: Fn(&Recording, &Pairs, usize, usize) -> bool>(
+pub fn try_orders<F: Fn(&Sight<'_>, usize, usize) -> bool>(
     recording: &Recording,
     demands: F,
 ) -> Tried
     requires { F.IsAlwaysCallable demands }
 {
-    let seen = least(recording, demands);
-    let serves = |order: &[usize], read: usize| has_its_value(recording, &seen, order, read);
+    let sight = Sight::least(recording, demands);
+    let is_acyclic = sight.seen.is_acyclic();
     Tried {
-        own: seen.is_acyclic()
+        own: is_acyclic
             && (0..recording.count()).all(|read| {
-                some_order(recording, &seen, |order| serves(order, read))
+                some_order(&sight, |order| sight.has_its_value(order, read))
             }),
-        shared: seen.is_acyclic()
-            && some_order(recording, &seen, |order| {
-                (0..recording.count()).all(|read| serves(order, read))
+        shared: is_acyclic
+            && some_order(&sight, |order| {
+                (0..recording.count()).all(|read| sight.has_its_value(order, read))
             }),
     }
 }
 
 // Whether some order of the writes keeps what is seen and passes a test.
-fn some_order<F: Fn(&[usize]) -> bool>(recording: &Recording, seen: &Pairs, test: F) -> bool
+fn some_order<F: Fn(&[usize]) -> bool>(sight: &Sight<'_>, test: F) -> bool
     requires { F.IsAlwaysCallable test }
 {
-    let count = writes_of(recording).len();
+    let count = writes_of(sight.recording).len();
     (0..factorial(count)).any(|code| {
-        let order = order_of(code, writes_of(recording));
-        keeps(seen, &order) && test(&order)
+        let order = order_of(code, writes_of(sight.recording));
+        sight.is_kept_by(&order) && test(&order)
     })
 }
 
@@ -72,23 +71,4 @@ fn order_of(code: usize, mut writes: ArrayVec<usize, 6>) -> ArrayVec<usize, 6> {
         rest /= left;
     }
     writes
-}
-
-// Whether `a` comes before `b` wherever `b` sees `a`.
-fn keeps(seen: &Pairs, order: &[usize]) -> bool {
-    order.iter().enumerate().all(|(place, b)| order.iter().skip(place).all(|a| !seen.has(*a, *b)))
-}
-
-// Whether a read has the value of the last write of its register that it sees, or 0 where it sees none; a write always does.
-fn has_its_value(recording: &Recording, seen: &Pairs, order: &[usize], number: usize) -> bool {
-    let Some(read) = recording.operation(number) else {
-        return true;
-    };
-    let last = order
-        .iter()
-        .rev()
-        .filter(|write| seen.has(**write, number))
-        .filter_map(|write| recording.operation(*write))
-        .find(|write| write.register == read.register);
-    read.kind == Kind::Write || last.map_or(0, |write| write.value) == read.value
 }
