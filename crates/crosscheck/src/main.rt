@@ -11,6 +11,7 @@ mod seeing;
 mod tally;
 
 use dice::Dice;
+use judgement::{judge_own, judge_session, judge_shared};
 use lent::Lent;
 use listing::try_listings;
 use making::make;
@@ -51,11 +52,15 @@ impl Tallies {
         requires { F.IsAlwaysCallable demands }
     {
         let tried = try_orders(recording, demands);
-        let mut lent = Lent::new();
-        if let Ok(verdict) = lent.own(recording, rule) {
+        let mut lent = Lent::default();
+        if let Ok(verdict) = lent.judged(|seen, working, evidence| judge_own(
+            recording, rule, seen, working, evidence,
+        )) {
             self.own.note(verdict.violation, tried.own);
         }
-        if let Ok(verdict) = lent.shared(recording, rule) {
+        if let Ok(verdict) = lent.judged(|seen, working, evidence| judge_shared(
+            recording, rule, seen, working, evidence,
+        )) {
             self.shared.note(verdict.violation, tried.shared);
         }
     }
@@ -63,7 +68,10 @@ impl Tallies {
     // The session judgement likewise.
     fn compare_sessions(&mut self, recording: &Recording) {
         let explained = try_listings(recording);
-        if let Ok(verdict) = Lent::new().session(recording) {
+        let mut lent = Lent::default();
+        if let Ok(verdict) = lent.judged(|seen, working, evidence| judge_session(
+            recording, seen, working, evidence,
+        )) {
             self.session.note(verdict.violation, explained);
         }
     }
