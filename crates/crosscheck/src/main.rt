@@ -48,61 +48,62 @@ impl Tallies {
         recording: &Recording,
         rule: &R,
         demands: F,
-    )
+    ) -> anyhow::Result<()>
         requires { F.IsAlwaysCallable demands }
     {
         let tried = try_orders(recording, demands);
         let mut lent = Lent::default();
-        if let Ok(verdict) = lent.judged(|seen, working, evidence| judge_own(
+        let own = lent.judged(|seen, working, evidence| judge_own(
             recording, rule, seen, working, evidence,
-        )) {
-            self.own.note(verdict.violation, tried.own);
-        }
-        if let Ok(verdict) = lent.judged(|seen, working, evidence| judge_shared(
+        ))?;
+        self.own.note(own.violation, tried.own);
+        let shared = lent.judged(|seen, working, evidence| judge_shared(
             recording, rule, seen, working, evidence,
-        )) {
-            self.shared.note(verdict.violation, tried.shared);
-        }
+        ))?;
+        self.shared.note(shared.violation, tried.shared);
+        Ok(())
     }
 
     // The session judgement likewise.
-    fn compare_sessions(&mut self, recording: &Recording) {
-        let explained = try_listings(recording);
-        let mut lent = Lent::default();
-        if let Ok(verdict) = lent.judged(|seen, working, evidence| judge_session(
+    fn compare_sessions(&mut self, recording: &Recording) -> anyhow::Result<()> {
+        let session = Lent::default().judged(|seen, working, evidence| judge_session(
             recording, seen, working, evidence,
-        )) {
-            self.session.note(verdict.violation, explained);
-        }
+        ))?;
+        self.session
+            .note(session.violation, try_listings(recording));
+        Ok(())
     }
 
     // Under a term list, as it is spelled and as its terms.
-    fn compare_terms(&mut self, recording: &Recording, spelling: &[u8], terms: &[&[u8]]) {
-        if let Ok(rule) = TermList::spelled(spelling) {
-            self.compare(recording, &rule, |sight, a, b| {
-                terms.iter().any(|term| sight.walks(term, a, b))
-            });
-        }
+    fn compare_terms(
+        &mut self,
+        recording: &Recording,
+        spelling: &[u8],
+        terms: &[&[u8]],
+    ) -> anyhow::Result<()> {
+        let rule = TermList::spelled(spelling)?;
+        self.compare(recording, &rule, |sight, a, b| {
+            terms.iter().any(|term| sight.walks(term, a, b))
+        })
     }
 
     // Under a late rule.
-    fn compare_late(&mut self, recording: &Recording, distance: u32) {
-        if let Ok(rule) = Late::new(distance) {
-            self.compare(recording, &rule, |sight, a, b| {
-                sight.is_late(distance as usize, a, b)
-            });
-        }
+    fn compare_late(&mut self, recording: &Recording, distance: u32) -> anyhow::Result<()> {
+        let rule = Late::new(distance)?;
+        self.compare(recording, &rule, |sight, a, b| {
+            sight.is_late(distance as usize, a, b)
+        })
     }
 
     // One recording under every rule.
-    fn compare_all(&mut self, recording: &Recording) {
-        self.compare(recording, &Causal, |sight, a, b| sight.is_causal(a, b));
-        self.compare_terms(recording, b"", &[]);
-        self.compare_terms(recording, b"vs", &[b"vs"]);
-        self.compare_terms(recording, b"s,vs,sv", &[b"s", b"vs", b"sv"]);
-        self.compare_late(recording, 1);
-        self.compare_late(recording, 2);
-        self.compare_sessions(recording);
+    fn compare_all(&mut self, recording: &Recording) -> anyhow::Result<()> {
+        self.compare(recording, &Causal, |sight, a, b| sight.is_causal(a, b))?;
+        self.compare_terms(recording, b"", &[])?;
+        self.compare_terms(recording, b"vs", &[b"vs"])?;
+        self.compare_terms(recording, b"s,vs,sv", &[b"s", b"vs", b"sv"])?;
+        self.compare_late(recording, 1)?;
+        self.compare_late(recording, 2)?;
+        self.compare_sessions(recording)
     }
 }
 
@@ -122,7 +123,7 @@ fn run(rt: &HostRuntime) -> anyhow::Result<()> {
     let mut tallies = Tallies::new();
     let mut dice = Dice::new(1);
     for _ in 0..RECORDINGS {
-        tallies.compare_all(&make(&mut dice));
+        tallies.compare_all(&make(&mut dice))?;
     }
     println!(rt; "{RECORDINGS} recordings")?;
     print_tally(rt, "own", tallies.own)?;
