@@ -18,6 +18,7 @@ use making::make;
 use ordering::try_orders;
 use recording::Recording;
 use seeing::Sight;
+use seeing::Step::{self, Seen, Station};
 use std::io;
 use tally::Tally;
 use visibility::{Causal, Late, Rule, TermList};
@@ -79,7 +80,7 @@ impl Tallies {
         &mut self,
         recording: &Recording,
         spelling: &[u8],
-        terms: &[&[u8]],
+        terms: &[&[Step]],
     ) -> anyhow::Result<()> {
         let rule = TermList::spelled(spelling)?;
         self.compare(recording, &rule, |sight, a, b| {
@@ -99,8 +100,12 @@ impl Tallies {
     fn compare_all(&mut self, recording: &Recording) -> anyhow::Result<()> {
         self.compare(recording, &Causal, |sight, a, b| sight.is_causal(a, b))?;
         self.compare_terms(recording, b"", &[])?;
-        self.compare_terms(recording, b"vs", &[b"vs"])?;
-        self.compare_terms(recording, b"s,vs,sv", &[b"s", b"vs", b"sv"])?;
+        self.compare_terms(recording, b"vs", &[&[Seen, Station]])?;
+        self.compare_terms(
+            recording,
+            b"s,vs,sv",
+            &[&[Station], &[Seen, Station], &[Station, Seen]],
+        )?;
         self.compare_late(recording, 1)?;
         self.compare_late(recording, 2)?;
         self.compare_sessions(recording)

@@ -3,6 +3,14 @@ use crate::pairs::Pairs;
 use recording::{Kind, Recording};
 use std::array;
 
+/// A step of a term: by station order, or by what is seen.
+// Not the `Letter` of `visibility`: the second checker shares only the recording with the judgements.
+#[derive(Clone, Copy)]
+pub enum Step {
+    Station,
+    Seen,
+}
+
 /// A recording, and what its operations see.
 #[derive(Clone, Copy)]
 pub struct Sight<'a> {
@@ -58,22 +66,19 @@ impl<'a> Sight<'a> {
     }
 
     /// What a term demands: whether its steps lead from `a` to `b`.
-    pub fn walks(&self, term: &[u8], a: usize, b: usize) -> bool {
+    pub fn walks(&self, term: &[Step], a: usize, b: usize) -> bool {
         let mut here: [bool; 16] = array::from_fn(|c| c == a);
-        for letter in term {
-            here = self.step(*letter, &here);
+        for step in term {
+            here = self.after(*step, &here);
         }
         b < 16 && here[b]
     }
 
-    // Where one step by a letter leads from some numbers.
-    fn step(&self, letter: u8, here: &[bool; 16]) -> [bool; 16] {
-        let leads = |c, b| {
-            if letter == b's' {
-                self.is_before(c, b)
-            } else {
-                self.seen.has(c, b)
-            }
+    // Where a step leads from some numbers.
+    fn after(&self, step: Step, here: &[bool; 16]) -> [bool; 16] {
+        let leads = |c, b| match step {
+            Step::Station => self.is_before(c, b),
+            Step::Seen => self.seen.has(c, b),
         };
         array::from_fn(|b| here
             .iter()
