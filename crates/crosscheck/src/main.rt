@@ -19,7 +19,6 @@ use ordering::try_orders;
 use recording::Recording;
 use seeing::Sight;
 use seeing::Step::{self, Seen, Station};
-use std::io;
 use tally::Tally;
 use visibility::{Causal, Late, Rule, TermList};
 
@@ -112,18 +111,6 @@ impl Tallies {
     }
 }
 
-// How often each verdict of a judgement came, and whether the second checker ever disagreed.
-fn print_tally(rt: &HostRuntime, name: &str, tally: Tally) -> io::Result<()> {
-    print!(rt; "{name}:")?;
-    for count in &tally.counts {
-        if count.times > 0 {
-            print!(rt; " {count}")?;
-        }
-    }
-    println!(rt; "")?;
-    println!(rt; "disagreed: {}", tally.disagreed)
-}
-
 fn run(rt: &HostRuntime) -> anyhow::Result<()> {
     let mut tallies = Tallies::new();
     let mut dice = Dice::new(1);
@@ -131,9 +118,9 @@ fn run(rt: &HostRuntime) -> anyhow::Result<()> {
         tallies.compare_all(&make(&mut dice))?;
     }
     println!(rt; "{RECORDINGS} recordings")?;
-    print_tally(rt, "own", tallies.own)?;
-    print_tally(rt, "shared", tallies.shared)?;
-    print_tally(rt, "session", tallies.session)?;
+    println!(rt; "own:{}", tallies.own)?;
+    println!(rt; "shared:{}", tallies.shared)?;
+    println!(rt; "session:{}", tallies.session)?;
     Ok(())
 }
 

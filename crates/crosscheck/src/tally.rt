@@ -2,18 +2,18 @@
 use judgement::Violation;
 use std::fmt;
 
-/// How often a recording was explained, or a violation was named.
+// How often a recording was explained, or a violation was named.
 #[derive(Clone, Copy)]
-pub struct Count {
-    pub verdict: Option<Violation>,
-    pub times: u64,
+struct Count {
+    verdict: Option<Violation>,
+    times: u64,
 }
 
 /// The verdicts of one judgement, and how often the second checker disagreed.
 #[derive(Clone, Copy)]
 pub struct Tally {
-    pub counts: [Count; 8],
-    pub disagreed: u64,
+    counts: [Count; 8],
+    disagreed: u64,
 }
 
 impl Tally {
@@ -37,10 +37,13 @@ impl Tally {
 
     /// Notes a verdict, and whether the second checker explains the recording.
     pub fn note(&mut self, verdict: Option<Violation>, explained: bool) {
-        for count in &mut self.counts {
-            if count.verdict == verdict {
-                count.times = count.times.saturating_add(1);
-            }
+        if let Some(place) = self
+            .counts
+            .iter()
+            .position(|count| count.verdict == verdict)
+        {
+            let count = &mut self.counts[place];
+            count.times = count.times.saturating_add(1);
         }
         if verdict.is_none() != explained {
             self.disagreed = self.disagreed.saturating_add(1);
@@ -54,5 +57,15 @@ impl fmt::Display for Count {
             Some(violation) => write!(f, "{violation} {}", self.times),
             None => write!(f, "explained {}", self.times),
         }
+    }
+}
+
+// Each verdict that came, after a space; then a line with how often the second checker disagreed.
+impl fmt::Display for Tally {
+    fn fmt<W: fmt::Write>(&self, f: &mut fmt::Formatter<W>) -> fmt::Result {
+        for count in self.counts.iter().filter(|count| count.times > 0) {
+            write!(f, " {count}")?;
+        }
+        write!(f, "\ndisagreed: {}", self.disagreed)
     }
 }
