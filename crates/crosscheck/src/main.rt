@@ -111,7 +111,7 @@ impl Tallies {
     }
 }
 
-fn run(rt: &HostRuntime) -> anyhow::Result<()> {
+fn run(rt: &impl Print) -> anyhow::Result<()> {
     let mut tallies = Tallies::new();
     let mut dice = Dice::new(1);
     for _ in 0..RECORDINGS {
