@@ -73,16 +73,6 @@ fn ordered(recording: &Recording, read: usize) -> Result<(usize, [u16; 3]), Refu
     Ok((count, front(&evidence)))
 }
 
-// A term list that is spelled right.
-fn terms(spelling: &[u8]) -> Result<TermList, Fail> {
-    TermList::spelled(spelling).map_err(|_| Fail::new("misspelled"))
-}
-
-// A late rule with a distance that it takes.
-fn late(distance: u32) -> Result<Late, Fail> {
-    Late::new(distance).map_err(|_| Fail::new("no such distance"))
-}
-
 #[test]
 fn no_operations_are_explained(rt: HostRuntime) -> Result<(), Fail> {
     let recording = told(&rt, &[]);
@@ -108,7 +98,10 @@ fn a_read_before_its_own_write_is_a_cycle(rt: HostRuntime) -> Result<(), Fail> {
         shared(&recording, &Causal)?.0,
         Some(Violation::BadVisibility)
     );
-    assert_eq!(rt; shared(&recording, &terms(b"")?)?, (None, 1, [1, 999, 999]));
+    assert_eq!(rt;
+        shared(&recording, &TermList::spelled(b"")?)?,
+        (None, 1, [1, 999, 999])
+    );
     Ok(())
 }
 
@@ -118,8 +111,11 @@ fn a_read_of_zero_after_a_write_of_its_station(rt: HostRuntime) -> Result<(), Fa
     let found = (Some(Violation::BadInitRead), 2, [1, 0, 999]);
     assert_eq!(rt; own(&recording, &Causal)?, found);
     assert_eq!(rt; shared(&recording, &Causal)?, found);
-    assert_eq!(rt; shared(&recording, &late(1)?)?, found);
-    assert_eq!(rt; shared(&recording, &late(2)?)?, (None, 1, [0, 999, 999]));
+    assert_eq!(rt; shared(&recording, &Late::new(1)?)?, found);
+    assert_eq!(rt;
+        shared(&recording, &Late::new(2)?)?,
+        (None, 1, [0, 999, 999])
+    );
     Ok(())
 }
 
@@ -137,8 +133,11 @@ fn an_older_value_after_a_newer_one_is_a_bad_read(rt: HostRuntime) -> Result<(),
     let found = (Some(Violation::BadRead), 3, [3, 0, 1]);
     assert_eq!(rt; own(&recording, &Causal)?, found);
     assert_eq!(rt; shared(&recording, &Causal)?, found);
-    assert_eq!(rt; shared(&recording, &terms(b"vs")?)?, (None, 2, [1, 0, 999]));
-    assert_eq!(rt; shared(&recording, &terms(b"s,vs,sv")?)?, found);
+    assert_eq!(rt;
+        shared(&recording, &TermList::spelled(b"vs")?)?,
+        (None, 2, [1, 0, 999])
+    );
+    assert_eq!(rt; shared(&recording, &TermList::spelled(b"s,vs,sv")?)?, found);
     Ok(())
 }
 
@@ -175,7 +174,7 @@ fn a_bad_read_by_two_steps_where_one_does_not_show_it(rt: HostRuntime) -> Result
             (2, Read, 1, 1),
         ],
     );
-    let rule = terms(b"s,vs")?;
+    let rule = TermList::spelled(b"s,vs")?;
     let mut seen = [0; 1024];
     let mut working = [0; 1024];
     let mut evidence = [999; 256];

@@ -14,9 +14,9 @@ fn violation(calls: &[Call<'_>], question: Question) -> Result<Option<Violation>
         &mut [0; 1024],
         &mut [0; 1024],
         &mut [0; 256],
-    ) {
-        Ok(Reply::Judged(verdict)) => Ok(verdict.violation),
-        _ => Err(Fail::new("no verdict")),
+    )? {
+        Reply::Judged(verdict) => Ok(verdict.violation),
+        Reply::Ordered(_) => Err(Fail::new("no verdict")),
     }
 }
 
@@ -58,11 +58,8 @@ fn a_run_with_refused_calls_is_judged(rt: HostRuntime) -> Result<(), Fail> {
         &mut [0; 1024],
         &mut [0; 1024],
         &mut evidence,
-    );
-    match reply {
-        Ok(Reply::Ordered(count)) => assert_eq!(rt; count, 3),
-        _ => return Err(Fail::new("no listing")),
-    }
+    )?;
+    assert!(rt; matches!(reply, Reply::Ordered(3)));
     assert_eq!(rt; [evidence[0], evidence[1], evidence[2]], [2, 0, 3]);
     Ok(())
 }

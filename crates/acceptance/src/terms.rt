@@ -32,9 +32,7 @@ fn no_terms_demand_nothing(rt: HostRuntime) -> Result<(), Fail> {
     let mut r = Recording::unstarted();
     assert_eq!(rt; r.read(0, 5, 7), Ok(0));
     assert_eq!(rt; r.write(0, 5, 7), Ok(1));
-    let Ok(none) = TermList::spelled(b"") else {
-        return Err(Fail::new("the empty spelling is refused"));
-    };
+    let none = TermList::spelled(b"")?;
     let mut words = [0; 1024];
     least_visibility(&r, &none, &mut words);
     let seen = Table { words: &words };
@@ -51,9 +49,7 @@ fn a_term_is_walked_letter_by_letter(rt: HostRuntime) -> Result<(), Fail> {
     assert_eq!(rt; r.write(0, 1, 1), Ok(0));
     assert_eq!(rt; r.write(0, 2, 1), Ok(1));
     assert_eq!(rt; r.read(1, 2, 1), Ok(2));
-    let Ok(terms) = TermList::spelled(b"sv") else {
-        return Err(Fail::new("the spelling is refused"));
-    };
+    let terms = TermList::spelled(b"sv")?;
     let mut words = [0; 1024];
     least_visibility(&r, &terms, &mut words);
     let seen = Table { words: &words };

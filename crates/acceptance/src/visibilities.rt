@@ -76,9 +76,7 @@ fn late_counts_places_of_the_station(rt: HostRuntime) -> Result<(), Fail> {
     assert_eq!(rt; r.write(1, 2, 1), Ok(1));
     assert_eq!(rt; r.read(0, 1, 0), Ok(2));
     assert_eq!(rt; r.read(0, 1, 0), Ok(3));
-    let Ok(late) = Late::new(2) else {
-        return Err(Fail::new("the distance is refused"));
-    };
+    let late = Late::new(2)?;
     let mut words = [0; 1024];
     least_visibility(&r, &late, &mut words);
     let seen = Table { words: &words };
