@@ -12,19 +12,8 @@ pub fn print_answer(
 ) -> io::Result<()> {
     print!(rt; "line {number}: {text}: ")?;
     match answer {
-        Ok(Answer::Started) => println!(rt; "started"),
-        Ok(Answer::Told(operation)) => println!(rt; "operation {operation}"),
-        Ok(Answer::Loaded(count)) => println!(rt; "{count} operations loaded"),
-        Err(CallRefusal::Recording(refusal)) => {
-            println!(rt; "refused by {}, {refusal}", refusal.number())
-        }
-        Err(CallRefusal::Load(refusal)) => {
-            println!(rt;
-                "refused by {} at word {}",
-                refusal.number(),
-                refusal.place()
-            )
-        }
+        Ok(answer) => println!(rt; "{answer}"),
+        Err(refusal) => println!(rt; "{refusal}"),
     }
 }
 

@@ -7,6 +7,8 @@ ghost use Rattle.words.specs.Runs.{Settles};
 
 use crate::loading::{LoadRefusal, load};
 use recording::{Recording, Refusal};
+use std::error::Error;
+use std::fmt;
 
 /// A call that changes a recording, with what it is handed.
 #[derive(Clone, Copy)]
@@ -33,6 +35,16 @@ pub enum Answer {
     Loaded(usize),
 }
 
+impl fmt::Display for Answer {
+    fn fmt<W: fmt::Write>(&self, f: &mut fmt::Formatter<W>) -> fmt::Result {
+        match self {
+            Answer::Started => f.write_str("started"),
+            Answer::Told(number) => write!(f, "operation {number}"),
+            Answer::Loaded(count) => write!(f, "{count} operations loaded"),
+        }
+    }
+}
+
 /// Why a call is refused: by the recording, or as a load.
 #[derive(Clone, Copy, PartialEq, Eq, Debug)]
 pub enum CallRefusal {
@@ -40,19 +52,35 @@ pub enum CallRefusal {
     Load(LoadRefusal),
 }
 
+impl fmt::Display for CallRefusal {
+    fn fmt<W: fmt::Write>(&self, f: &mut fmt::Formatter<W>) -> fmt::Result {
+        match self {
+            CallRefusal::Recording(refusal) => {
+                write!(f, "refused by {}, {refusal}", refusal.number())
+            }
+            CallRefusal::Load(refusal) => {
+                let (number, place) = (refusal.number(), refusal.place());
+                write!(f, "refused by {number} at word {place}")
+            }
+        }
+    }
+}
+
+impl Error for CallRefusal {}
+
 impl From<Refusal> for CallRefusal {
     ghost from_gives = { λ refusal call. call ≡ Recording refusal };
 
-    fn from(refusal: Refusal) -> CallRefusal {
-        CallRefusal::Recording(refusal)
+    fn from(refused: Refusal) -> CallRefusal {
+        CallRefusal::Recording(refused)
     }
 }
 
 impl From<LoadRefusal> for CallRefusal {
     ghost from_gives = { λ refusal call. call ≡ Load refusal };
 
-    fn from(refusal: LoadRefusal) -> CallRefusal {
-        CallRefusal::Load(refusal)
+    fn from(refused: LoadRefusal) -> CallRefusal {
+        CallRefusal::Load(refused)
     }
 }
 
