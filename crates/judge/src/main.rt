@@ -57,6 +57,7 @@ fn run(rt: &(impl Env + Input + Print + AllocGlobal)) -> anyhow::Result<()> {
     }
     print_operations(rt, &recording)?;
     let calls: Vec<Call<'_>> = steps.iter().map(|step| step.call()).collect(rt.alloc())?;
+    // Not one call with an `impl Rule for Chosen`: its calls and its law would be these three cases again, each for itself.
     match request.rule {
         Chosen::Causal => Inquiry::new(&recording, &calls, &Causal).answer(rt, &request)?,
         Chosen::Late(late) => Inquiry::new(&recording, &calls, &late).answer(rt, &request)?,

@@ -5,15 +5,16 @@ use std::num::ParseIntError;
 use visibility::{Late, LateRefusal, Misspelled, TermList};
 
 /// A rule that the arguments name.
-#[derive(Clone, Copy)]
+#[derive(Clone, Copy, Default)]
 pub enum Chosen {
+    #[default]
     Causal,
     Late(Late),
     Terms(TermList),
 }
 
 /// The rule, whether what each operation sees is printed, the read whose order is, and the station whose listing is.
-#[derive(Clone, Copy)]
+#[derive(Clone, Copy, Default)]
 pub struct Request {
     pub rule: Chosen,
     pub sees: bool,
@@ -70,12 +71,7 @@ impl fmt::Display for Unusable {
 impl Request {
     /// What the arguments ask for, after the program's name. Without any: the causal rule, and the verdicts alone.
     pub fn read(mut words: Args) -> Result<Request, Unusable> {
-        let mut request = Request {
-            rule: Chosen::Causal,
-            sees: false,
-            order: None,
-            listing: None,
-        };
+        let mut request = Request::default();
         words.next();
         while let Some(word) = words.next() {
             match word.as_str() {
