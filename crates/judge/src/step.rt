@@ -41,10 +41,10 @@ impl Step {
     pub fn parse(heap: Global, text: &str) -> Result<Option<Step>, NoStep> {
         let mut words = text.split_whitespace();
         if words.next() != Some("words") {
-            return Ok(parse(text)?.map(|call| Step::Told(call)));
+            return Ok(parse(text)?.map(Step::Told));
         }
         let words = words
-            .map(|word| u32::from_str_radix(word, 16).map_err(|error| NoStep::from(error)))
+            .map(|word| u32::from_str_radix(word, 16).map_err(NoStep::from))
             .try_collect(heap)?;
         Ok(Some(Step::Load(words)))
     }
