@@ -13,6 +13,7 @@ mod size;
 mod telling;
 
 /// The stations and the operations that were told, with an entry for each station.
+// No `Model`: proofs elsewhere read these facts, so its `Value` would hold six of them again, and `recorded` would stay for whole recordings.
 #[derive(Drop)]
 pub struct Recording {
     stations: u8,
