@@ -1,6 +1,7 @@
 //! What the words of a recording say.
 
 /// One record: a frame, an operation, or a note with its text.
+// A write and a read have a case each, as the format has a kind of word for each, and a recording a call.
 #[derive(Clone, Copy)]
 pub enum Record<'a> {
     Opening(u8),
