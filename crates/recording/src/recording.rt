@@ -13,7 +13,8 @@ mod size;
 mod telling;
 
 /// The stations and the operations that were told, with an entry for each station.
-// No `Model`: proofs elsewhere read these facts, so its `Value` would hold six of them again, and `recorded` would stay for whole recordings.
+// No `Model`: its value would have to hold six of these facts again, as proofs of other crates read them, and a clause on a whole
+// recording would still say `recorded`.
 #[derive(Drop)]
 pub struct Recording {
     stations: u8,

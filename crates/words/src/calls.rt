@@ -11,6 +11,7 @@ use std::error::Error;
 use std::fmt;
 
 /// A call that changes a recording, with what it is handed.
+// A write and a read have equal parts and a case each, as a recording takes each by a call of its own.
 #[derive(Clone, Copy)]
 pub enum Call<'a> {
     Start(u32),
