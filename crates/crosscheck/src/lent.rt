@@ -2,6 +2,7 @@
 use judgement::{Refusal, Verdict};
 
 /// Two tables and a buffer of the right lengths.
+// The program `judge` lends the same; the two share nothing, since this one checks what that one asks.
 #[derive(Default, Drop)]
 pub struct Lent {
     seen: [u64; 1024],

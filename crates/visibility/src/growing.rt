@@ -13,6 +13,8 @@ use rows::{Table, WORDS, put_row};
 
 /// Adds to a table of 1,024 words what the rule demands, until nothing more is demanded: the least relation that holds
 /// what the table held and all that is demanded under it. Words of another length are left as they are.
+// Rule, outline and table stand side by side in four functions: a struct of them would be made for one call, and taken apart at
+// each row.
 pub fn grow<R: Rule>(rule: &R, outline: &Outline, table: &mut [u64])
     ensures least { length table.old ≡ 1024 → Least (Asked (R.demands rule.now) (shapes_of outline.now)) (related table.old) (related table.new) }
     ensures unfit { length table.old ≢ 1024 → table.new ≡ table.old }
