@@ -63,6 +63,7 @@ fn cyclichb() -> [Told; 9] {
 /// The next recording: four stations, at most six writes, and at most twelve operations.
 pub fn make(dice: &mut Dice) -> Recording {
     let mut recording = Recording::unstarted();
+    // No start with four stations is refused.
     let _ = recording.start(4);
     match dice.below(8) {
         0 => follow(&mut recording, dice, &badarb()),
@@ -95,7 +96,7 @@ fn follow(recording: &mut Recording, dice: &mut Dice, pattern: &[Told]) {
     throw(recording, dice, more);
 }
 
-// Tells a write or a read.
+// Tells a write or a read. One that is refused, as a value that was written before, is left out on purpose.
 fn tell(recording: &mut Recording, operation: Told) {
     let Told {
         station,

@@ -1,6 +1,5 @@
 //! Which operations are of one station.
-ghost use Rattle.std.specs.Prelude.{◌≡◌, ℕ, Decides};
-ghost use Rattle.recording.specs.Operations.{at};
+ghost use Rattle.std.specs.Prelude.{ℕ, Decides};
 ghost use Rattle.recording.specs.Telling.{recorded};
 ghost use Rattle.rows.specs.Members.{member};
 ghost use Rattle.sessions.specs.Listings.{StationRead};

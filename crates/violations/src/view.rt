@@ -1,7 +1,5 @@
 //! A recording, and what its operations see.
-ghost use Rattle.std.specs.Prelude.{◌≡◌, Decides};
-ghost use Rattle.recording.specs.Operations.{at};
-ghost use Rattle.recording.specs.Telling.{recorded};
+ghost use Rattle.std.specs.Prelude.{Decides};
 ghost use Rattle.violations.specs.Explained.{In, SeesOf};
 ghost use Rattle.violations.specs.Views.{operations_of, seen_of};
 

@@ -1,5 +1,5 @@
 //! Grows a table until it holds all that a rule demands. A round asks for a row of each operation; there are as many
-//! rounds as it takes until one changes nothing, a handful, since a round goes from the last operation to the first.
+//! rounds as it takes until one changes nothing: one to five in the program `sweeps`, since a round goes from the last to the first.
 ghost use Rattle.std.specs.Prelude.{◌≡◌, ◌+◌, ◌<◌, false, length, ◌≢◌};
 ghost use Rattle.rows.specs.Members.{related};
 ghost use Rattle.visibility.specs.Growth.{Grown, Least};

@@ -9,7 +9,7 @@ use crate::outline::Outline;
 use crate::rule::Rule;
 use crate::sources::put_sources;
 use recording::Recording;
-use rows::{Row, WORDS};
+use rows::Row;
 
 /// Makes a table of 1,024 words the least visibility of the recording under the rule, pair for pair.
 /// Words of another length are left as they are.

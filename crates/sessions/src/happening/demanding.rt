@@ -1,5 +1,5 @@
 //! What the rule demands: what comes before what comes before, and a write before the source of a read that it is before.
-ghost use Rattle.std.specs.Prelude.{ℕ, ◌<◌, length, Decides};
+ghost use Rattle.std.specs.Prelude.{ℕ, Decides};
 ghost use Rattle.rows.specs.Members.{member, related};
 ghost use Rattle.visibility.specs.Sights.{shapes_in, seen_in};
 ghost use Rattle.visibility.specs.Visible.{Asked};

@@ -1,5 +1,4 @@
-use Rattle.std.proofs.Common.{◌≡◌, ℕ, length, replicate, ap, ◌∙◌, subst, true≢false, sym, arith, rules}
-use Rattle.std.proofs.lemmas.List.{length-replicate}
+use Rattle.std.proofs.Common.{◌≡◌, ℕ, length, ◌∙◌, subst, true≢false, sym, arith, rules}
 use Rattle.violations.specs.Tabled.{Tabled}
 use Rattle.violations.specs.Views.{operations_of, seen_of}
 use Rattle.violations.proofs.view.View.put_conflicts.Goals as goal
