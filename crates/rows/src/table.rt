@@ -18,8 +18,8 @@ ghost use Rattle.rows.specs.Members.{member, related};
 use crate::row::Row;
 use std::array;
 
-/// The words of a table. The calls here and above take a slice of any length, and leave one that has another as it is: an array
-/// would ask more of a caller.
+/// The words of a table. Calls that need a whole table take a slice of any length, and change nothing of one that has another: an
+/// array would ask more of a caller.
 pub const WORDS: usize = 1024;
 
 /// A table that is read: a relation on the numbers below 256.
