@@ -1,5 +1,5 @@
 -- What a line of a recording in text says.
-use Rattle.std.specs.Prelude.{◌≡◌, ℕ, ◌<◌, ◌^◌, ◌⊎◌, ⊤, List, [], ◌∷◌, length, slice_index, slice_index_or, codes, Some, None, Option, Ok, Result, IsOk}
+use Rattle.std.specs.Prelude.{◌≡◌, ◌≢◌, ℕ, ◌<◌, ◌^◌, ◌⊎◌, ⊤, List, [], ◌∷◌, length, slice_index, slice_index_or, codes, Some, None, Option, Ok, Result, IsOk}
 use Rattle.std.specs.Borrow.{Bor}
 use Rattle.std.specs.Result.{OkIff}
 use Rattle.std.specs.Str.Iter.{split_whitespace_rest, split_whitespace_steps}
@@ -63,6 +63,22 @@ NextWord before text after = (word : Option (Bor (List ℕ))) × split_whitespac
 abbrev pub FirstWords : SplitWhitespace → Words → Type 0
 FirstWords before [] = ⊤
 FirstWords before (word ∷ words) = (after : SplitWhitespace) × NextWord before word.now after × FirstWords after words
+
+-- a call of `number`, which reads the next word
+abbrev pub NextNumber : SplitWhitespace → Result ℕ Unreadable → SplitWhitespace → Type 0
+NextNumber before r after = (text : List ℕ) × NextWord before text after × OkIff r (IsNumber text) (number_of text)
+
+-- a call of `ended`, which refuses a further word
+abbrev pub NoWordLeft : SplitWhitespace → Call → Result (Option Call) Unreadable → SplitWhitespace → Type 0
+NoWordLeft before call r after = (text : List ℕ) × NextWord before text after × OkIff r (text ≡ []) (Some call)
+
+-- a first word that begins neither a comment nor `stations`
+abbrev pub IsOther : List ℕ → Type 0
+IsOther first = (first ≢ []) × (slice_index first 0 ≢ 35) × (first ≢ codes "stations")
+
+-- what a line says after its first word: what four further words say
+abbrev pub RestAnswer : List ℕ → SplitWhitespace → Result (Option Call) Unreadable → Type 0
+RestAnswer first before r = (words : Words) × (length words ≡ 4) × FirstWords before words × WordsAnswer (record { ref_ptr = (0, 0); now = first } ∷ words) r
 
 -- what a line says: what its first five words say
 abbrev pub LineAnswer : List ℕ → Result (Option Call) Unreadable → Type 0

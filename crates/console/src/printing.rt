@@ -10,10 +10,9 @@ pub fn print_answer(
     text: &str,
     answer: Result<Answer, CallRefusal>,
 ) -> io::Result<()> {
-    print!(rt; "line {number}: {text}: ")?;
     match answer {
-        Ok(answer) => println!(rt; "{answer}"),
-        Err(refusal) => println!(rt; "{refusal}"),
+        Ok(answer) => println!(rt; "line {number}: {text}: {answer}"),
+        Err(refusal) => println!(rt; "line {number}: {text}: {refusal}"),
     }
 }
 
@@ -26,11 +25,10 @@ pub fn print_operations(rt: &impl Print, recording: &Recording) -> io::Result<()
         recording.stations()
     )?;
     for (number, operation) in operations.iter().enumerate() {
-        print!(rt; "{number}: {operation}")?;
         match recording.source(number) {
-            Ok(Some(source)) => println!(rt; ", source {source}")?,
-            Ok(None) => println!(rt; ", no source")?,
-            Err(_) => println!(rt; "")?,
+            Ok(Some(source)) => println!(rt; "{number}: {operation}, source {source}")?,
+            Ok(None) => println!(rt; "{number}: {operation}, no source")?,
+            Err(_) => println!(rt; "{number}: {operation}")?,
         }
     }
     Ok(())

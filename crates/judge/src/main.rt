@@ -13,24 +13,23 @@ use recording::Recording;
 use request::{Chosen, Request};
 use std::env;
 use std::rt::Env;
-use step::{NoStep, Step};
+use step::{NoStep, Steps};
 use visibility::Causal;
-use words::{Call, tell};
+use words::tell;
 
-// Tells the recording what one line says, keeps it, and prints what is answered.
+// Keeps what one line says, tells the recording, and prints what is answered.
 fn tell_line(
     rt: &(impl Print + AllocGlobal),
     recording: &mut Recording,
-    steps: &mut Vec<Step>,
+    steps: &mut Steps,
     number: u64,
     text: &str,
 ) -> anyhow::Result<()> {
-    match Step::parse(rt.alloc(), text) {
+    match steps.keep(rt.alloc(), text) {
         Ok(None) => {}
         Ok(Some(step)) => {
-            let answer = tell(recording, step.call());
+            let answer = tell(recording, steps.call(step));
             print_answer(rt, number, step.shown(text), answer)?;
-            steps.push(step)?;
         }
         Err(NoStep::Unreadable(unreadable)) => println!(rt; "line {number}: {unreadable}")?,
         Err(NoStep::OutOfMemory(error)) => return Err(error.into()),
@@ -47,7 +46,7 @@ fn run(rt: &(impl Env + Input + Print + AllocGlobal)) -> anyhow::Result<()> {
         }
     };
     let mut recording = Recording::unstarted();
-    let mut steps = Vec::new(rt.alloc());
+    let mut steps = Steps::new(rt.alloc());
     // The loop stands in both programs: a function round it would take a closure that prints, keeps and fails in each one's way.
     for (number, text) in (1..=u64::MAX).zip(rt.lines(rt.alloc())) {
         match text {
@@ -56,7 +55,7 @@ fn run(rt: &(impl Env + Input + Print + AllocGlobal)) -> anyhow::Result<()> {
         }
     }
     print_operations(rt, &recording)?;
-    let calls: Vec<Call<'_>> = steps.iter().map(|step| step.call()).collect(rt.alloc())?;
+    let calls = steps.calls(rt.alloc())?;
     // Not one call with an `impl Rule for Chosen`: its calls and its law would be these three cases again, each for itself.
     match request.rule {
         Chosen::Causal => Inquiry::new(&recording, &calls, &Causal).answer(rt, &request)?,

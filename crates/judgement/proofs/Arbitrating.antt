@@ -73,6 +73,13 @@ module _ (ops : List Operation) (V : Rel) (M : ℕ → Bool) (d : (k : ℕ) → 
           let few : n ≤ 256 = f.1 in
           record { shows = (refl, cycle_kept ops V M d N m (related t) (Conflict ops V) conflict_decides after n (omega arith) f.2); few = few; tail = f.3 }
 
+    -- there is always room, so one of the two is found
+    pub arbitrated : length before ≡ 256 → (r : Result ℕ Obstacle) → Found (λ a b. N a b || related t a b) M before after r
+        → (n : ℕ) × (((r ≡ Ok n) × Arranged ops V n before after) ⊎ ((r ≡ Err (Cycle n)) × Evident ops V BadArb 0 n before after))
+    arbitrated room (Ok n) f = (n, inl (refl, arranged n f))
+    arbitrated room (Err (Cycle n)) f = (n, inr (refl, cyclic n f))
+    arbitrated room (Err NoRoom) f = let h = f.0 in absurd (omega arith)
+
 -- an order for the read r: K is what has to come before its source
 module _ (ops : List Operation) (valid : Valid ops) (V : Rel) (clean : OwnClean ops V) (r : ℕ) (M : ℕ → Bool) (d : (k : ℕ) → Decides (M k) (IsWrite ops k)) (N : Rel) (m : (a b : ℕ) → Decides (N a b) (Writes ops V a b)) (C : Rel)
     (k : (a b : ℕ) → Decides (C a b) (Rival ops V r b a)) where

@@ -1,6 +1,9 @@
 -- Orders and cycles at the front of a buffer, as lists.
-use Rattle.std.proofs.Common.{◌≡◌, ℕ, zero, suc, ◌+◌, ◌-◌, ◌<◌, ◌≤◌, Bool, true, List, length, get_or, take, sym, ap, ◌∙◌, subst, subst₂, arith}
+use Rattle.std.proofs.Common.{◌≡◌, ℕ, zero, suc, ◌+◌, ◌-◌, ◌<◌, ◌≤◌, Bool, true, List, length, get_or, take, Ok, Err, Result, sym, refl, ap, ◌∙◌, subst, subst₂, arith}
 use Rattle.std.proofs.lemmas.List.{get_or-take, length-take-le}
+use Rattle.relation.specs.declared.order.Obstacle.{Obstacle}
+use Rattle.relation.specs.declared.order.Obstacle.TheVariants.{Cycle, NoRoom}
+use Rattle.relation.specs.Found.{Found, Exactly}
 use Rattle.relation.specs.Orders.{Ordered, Ring}
 use Rattle.relation.specs.Steps.{Steps, one, Acyclic, Among, Once, Precedes, Lists}
 use Rattle.relation.proofs.Extending.{steps_join, steps_wider}
@@ -70,6 +73,12 @@ module _ (xs : List ℕ) (n : ℕ) (fits : n ≤ length xs) where
         let up = o.keeps p.0 q.0 p.1 q.1 (subst₂ (λ x y. R x y ≡ true) (sym p.2) (sym q.2) r) in
         (places_theorem.precedes (take n xs) a b).1
         (p.0, q.0, up, (let z = q.1 in omega arith), sym (front p.0 p.1) ∙ p.2, sym (front q.0 q.1) ∙ q.2)
+
+-- where there is room, and no cycle is found, there is none
+pub no_cycle : (R : ℕ → ℕ → Bool) (M : ℕ → Bool) (before after : List ℕ) (r : Result ℕ Obstacle) → Found R M before after r → Exactly R M r → 256 ≤ length before → ((n : ℕ) → ¬ (r ≡ Err (Cycle n))) → Acyclic (Among M R)
+no_cycle R M before after (Ok n) f e room k = e
+no_cycle R M before after (Err (Cycle n)) f e room k = absurd (k n refl)
+no_cycle R M before after (Err NoRoom) f e room k = let l = f.0 in absurd (omega arith)
 
 -- a relation within the numbers below n has no cycle where it has none among them
 pub within_acyclic : (R : ℕ → ℕ → Bool) (M : ℕ → Bool) → ((a b : ℕ) → R a b ≡ true → (M a ≡ true) × (M b ≡ true)) → Acyclic (Among M R) → Acyclic (λ a b. R a b ≡ true)

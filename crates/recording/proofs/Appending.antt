@@ -14,14 +14,14 @@ use Rattle.recording.specs.Telling.{Allowed}
 use Rattle.recording.proofs.Operations.{not_written}
 
 module _ (ops : List Operation) (x : Operation) where
-  at_old : (i : ℕ) → i < length ops → at (ops ++ x ∷ []) i ≡ at ops i
+  pub at_old : (i : ℕ) → i < length ops → at (ops ++ x ∷ []) i ≡ at ops i
   at_old i h = get_or_append_left ops (x ∷ []) (write_of 0 0 0) i h
 
-  at_new : (i : ℕ) → i ≡ length ops → at (ops ++ x ∷ []) i ≡ x
+  pub at_new : (i : ℕ) → i ≡ length ops → at (ops ++ x ∷ []) i ≡ x
   at_new i e = ap (at (ops ++ x ∷ [])) e ∙ get_or-append_seam ops x [] (write_of 0 0 0)
 
   -- a place in the longer list is an old one, or the last
-  either : (i : ℕ) → i < length (ops ++ x ∷ []) → (i < length ops) ⊎ (i ≡ length ops)
+  pub either : (i : ℕ) → i < length (ops ++ x ∷ []) → (i < length ops) ⊎ (i ≡ length ops)
   either i h = ⊎_elim inl (λ g. inr (omega (arith, length_push ops x))) (cases_lt i (length ops))
 
   -- what holds of each operation, and of the new one, holds of each in the longer list
@@ -65,7 +65,10 @@ module _ (ops : List Operation) (x : Operation) where
         (λ new_a. ⊎_elim (λ old_b. absurd (no_twin b a (turned a b t) old_b new_a)) (λ new_b. new_a ∙ sym new_b) (either b t.second.inside))
         (either a t.first.inside)
 
-last_more : (so_far : Option ℕ) (i : ℕ) (ops : List Operation) (x : Operation) (s : ℕ)
+pub tally_more : (ops : List Operation) (x : Operation) (s : ℕ) → tally (ops ++ x ∷ []) s ≡ tally ops s + cond (eqb x.station s) 1 0
+tally_more ops x s = sum_by_push (λ y. cond (eqb y.station s) 1 0) ops x
+
+pub last_more : (so_far : Option ℕ) (i : ℕ) (ops : List Operation) (x : Operation) (s : ℕ)
     → last_from so_far i (ops ++ x ∷ []) s ≡ cond (eqb x.station s) (Some (i + length ops)) (last_from so_far i ops s)
 unfolding last_from
 last_more so_far i [] x s = ap (λ n. cond (eqb x.station s) (Some n) so_far) (omega arith)
@@ -82,15 +85,12 @@ kept_more ops x es long low kept s h = ⊎_elim here there (cases_eq s x.station
     Right : Entry → Type 0
     Right e = (e.count ≡ tally (ops ++ x ∷ []) s) × (e.last ≡ last_from None 0 (ops ++ x ∷ []) s)
 
-    tally_more : tally (ops ++ x ∷ []) s ≡ tally ops s + cond (eqb x.station s) 1 0
-    tally_more = sum_by_push (λ y. cond (eqb y.station s) 1 0) ops x
-
     here : s ≡ x.station → Right (entry_at (set es x.station new) s)
     here e =
         let t : eqb x.station s ≡ true = eq-eqb _ _ (sym e) in
         let k : (entry_at es x.station).count ≡ tally ops s = subst (λ z. (entry_at es z).count ≡ tally ops s) e (kept s h).0 in
         subst Right (sym (ap (entry_at (set es x.station new)) e ∙ get_or-set_same es x.station new _ (omega arith))) (
-          omega (arith, tally_more, cond-true {A = ℕ} (eqb x.station s) 1 0 t),
+          omega (arith, tally_more ops x s, cond-true {A = ℕ} (eqb x.station s) 1 0 t),
           sym (last_more None 0 ops x s ∙ cond-true (eqb x.station s) (Some (0 + length ops)) (last_from None 0 ops s) t ∙ ap Some (omega arith)),
         )
 
@@ -98,7 +98,7 @@ kept_more ops x es long low kept s h = ⊎_elim here there (cases_eq s x.station
     there n =
         let t : eqb x.station s ≡ false = ne_eqb _ _ (λ e. n (sym e)) in
         subst Right (sym (get_or-set_other es x.station s new _ n)) (
-          omega (arith, (kept s h).0, tally_more, cond-false {A = ℕ} (eqb x.station s) 1 0 t),
+          omega (arith, (kept s h).0, tally_more ops x s, cond-false {A = ℕ} (eqb x.station s) 1 0 t),
           (kept s h).1 ∙ sym (last_more None 0 ops x s ∙ cond-false (eqb x.station s) (Some (0 + length ops)) (last_from None 0 ops s) t),
         )
 
@@ -136,9 +136,13 @@ last_all done (x ∷ rest) s n o e last =
     (subst (λ k. LastOf (done ++ x ∷ []) s (cond (eqb x.station s) (Some k) o)) (sym e) (last_step done x s o last)))
 
 -- what `last_from` finds is the last one
-last_of : (ops : List Operation) (s : ℕ) → LastOf ops s (last_from None 0 ops s)
+pub last_of : (ops : List Operation) (s : ℕ) → LastOf ops s (last_from None 0 ops s)
 last_of ops s = last_all [] ops s 0 None refl (λ i h. absurd (omega arith))
+
+-- an entry that is kept is the station's
+pub entry_is : (ops : List Operation) (es : List Entry) (s : ℕ) → ((entry_at es s).count ≡ (entry_of ops s).count) × ((entry_at es s).last ≡ (entry_of ops s).last) → entry_at es s ≡ entry_of ops s
+entry_is ops es s k = λ i. record { count = k.0 i; last = k.1 i }
 
 -- the entry of a station that is there
 pub kept_entry : (ops : List Operation) (es : List Entry) (s : ℕ) → Kept ops es → s < 16 → (entry_at es s ≡ entry_of ops s) × LastOf ops s (entry_at es s).last
-kept_entry ops es s kept low = let k = kept s low in (λ i. record { count = k.0 i; last = k.1 i }, subst (LastOf ops s) (sym k.1) (last_of ops s))
+kept_entry ops es s kept low = let k = kept s low in (entry_is ops es s k, subst (LastOf ops s) (sym k.1) (last_of ops s))

@@ -9,11 +9,11 @@ use Rattle.recording.specs.declared.operation.Kind.TheVariants.{Write, Read}
 use Rattle.recording.specs.declared.operation.Operation.{Operation}
 use Rattle.recording.specs.Operations.{write_of, at, is_write, Gives, gives, written}
 
-write_is : (k : Kind) → is_write k ≡ true → k ≡ Write
+pub write_is : (k : Kind) → is_write k ≡ true → k ≡ Write
 write_is Write e = refl
 write_is Read e = absurd (true≢false (sym e))
 
-gives_parts : (x : Operation) (reg v : ℕ) → gives x reg v ≡ true → (x.kind ≡ Write) × (x.register ≡ reg) × (x.value ≡ v)
+pub gives_parts : (x : Operation) (reg v : ℕ) → gives x reg v ≡ true → (x.kind ≡ Write) × (x.register ≡ reg) × (x.value ≡ v)
 gives_parts x reg v e =
     let p = and_parts (is_write x.kind) (eqb x.register reg && eqb x.value v) e in
     let q = and_parts (eqb x.register reg) (eqb x.value v) p.1 in

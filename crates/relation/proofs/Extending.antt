@@ -1,5 +1,5 @@
 -- Decisions, and an order that extends a relation without cycles.
-use Rattle.std.proofs.Common.{◌≡◌, ℕ, zero, suc, ◌<◌, Bool, true, ◌⊎◌, List, [], ◌∷◌, sym, refl, subst, inl, inr, ⊎_elim, arith}
+use Rattle.std.proofs.Common.{◌≡◌, ℕ, zero, suc, ◌<◌, Bool, true, ◌≢◌, ◌⊎◌, List, [], ◌∷◌, sym, refl, subst, inl, inr, ⊎_elim, arith}
 use mathlib.Core.Bool.{Bool-discrete}
 use native.Mathlib.Decide.{ℕ_discrete}
 use Rattle.relation.specs.Steps.{Holds, Once, Precedes, Lists, Steps, one, more, Acyclic}
@@ -73,6 +73,14 @@ precedes_asym l a b o p q = precedes_irrefl l a o (precedes_trans l a b a o p q)
 pub steps_precede : {R : ℕ → ℕ → Type 0} (l : List ℕ) {a b : ℕ} → Once l → ((x y : ℕ) → R x y → Precedes l x y) → Steps R a b → Precedes l a b
 steps_precede l o f (one {a = a} {b = b} r) = f a b r
 steps_precede l o f (more {a = a} {b = b} {c = c} r s) = precedes_trans l a b c o (f a b r) (steps_precede l o f s)
+
+-- two members stand one before the other
+pub precedes_either : (l : List ℕ) (a b : ℕ) → Holds l a → Holds l b → a ≢ b → Precedes l a b ⊎ Precedes l b a
+precedes_either [] a b h k n = absurd h
+precedes_either (x ∷ l) a b (inl e) (inl f) n = absurd (n (omega arith))
+precedes_either (x ∷ l) a b (inl e) (inr k) n = inl (inl (e, k))
+precedes_either (x ∷ l) a b (inr h) (inl f) n = inr (inl (f, h))
+precedes_either (x ∷ l) a b (inr h) (inr k) n = ⊎_elim (λ p. inl (inr p)) (λ p. inr (inr p)) (precedes_either l a b h k n)
 
 -- ── An order that extends a relation ──
 

@@ -9,14 +9,6 @@ use Rattle.rows.specs.Counts.{size}
 use Rattle.rows.proofs.Sizes.{size_le, size_with, size_without}
 use Rattle.relation.specs.Orders.{Arranged, Ordered, Ring}
 
--- ---- one more row of an image
-
--- what the numbers of `from` that have left `rest` are related to
-pub record Imaging (R : ℕ → ℕ → Bool) (from rest reached : ℕ → Bool) : Type 0 where
-  pub some : (k : ℕ) → rest k ≡ true → from k ≡ true
-  pub sound : (k : ℕ) → reached k ≡ true → (a : ℕ) × (from a ≡ true) × (R a k ≡ true)
-  pub whole : (a k : ℕ) → from a ≡ true → rest a ≡ false → R a k ≡ true → reached k ≡ true
-
 -- ---- one more number in order
 
 module _ (R : ℕ → ℕ → Bool) (M : ℕ → Bool) where

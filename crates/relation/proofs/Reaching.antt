@@ -1,11 +1,24 @@
 -- What is reached by steps of a relation.
-use Rattle.std.proofs.Common.{◌≡◌, ℕ, ◌<◌, Bool, true, false, not, ◌&&◌, ◌||◌, ◌⊎◌, Decides, sym, ◌∙◌, inl, inr, arith}
+use Rattle.std.proofs.Common.{◌≡◌, ℕ, ◌<◌, Bool, true, false, not, ◌&&◌, ◌||◌, ◌⊎◌, Decides, sym, ◌∙◌, inl, inr, true≢false, arith}
 use Rattle.std.proofs.lemmas.Bool.{cases_Bool, cases_eq, both_ways, and_parts, and_from, not_from_false, not-true, or_cases, or_left, or_right}
 use Rattle.rows.specs.Counts.{size}
 use Rattle.rows.proofs.Sizes.{Under, size_mono, size_full}
 use Rattle.relation.specs.Orders.{Image}
 use Rattle.relation.specs.Steps.{Steps, one, more}
 use Rattle.relation.proofs.Extending.{steps_join}
+
+-- something is new: there are more
+pub new_more : (P Q : ℕ → Bool) → Under P Q → ((k : ℕ) → Q k ≡ true → k < 256) → ¬ ((k : ℕ) → Q k ≡ P k) → size P 256 < size Q 256
+new_more P Q u below new = elim (cases_eq (size P 256) (size Q 256)) [
+  | inl e ↦ absurd (new (λ k. elim (cases_Bool (Q k)) [
+    | inl t ↦ sym (size_full P Q 256 u e k (below k t))
+    | inr f ↦ elim (cases_Bool (P k)) [
+      | inl p ↦ absurd (true≢false (sym (u k p) ∙ f))
+      | inr n ↦ f ∙ sym n
+    ]
+  ]))
+  | inr n ↦ let l = size_mono P Q 256 u in omega arith
+]
 
 -- what steps lead to, and what one step more leads to from there, which is new
 pub record Reached (R : ℕ → ℕ → Bool) (a : ℕ) (P N : ℕ → Bool) : Type 0 where
@@ -50,16 +63,10 @@ module _ (R : ℕ → ℕ → Bool) (a : ℕ) where
 
     -- as something is new, more is reached
     pub reached_grows : ((k : ℕ) → Q k ≡ true → k < 256) → ¬ ((k : ℕ) → N k ≡ false) → size P 256 < size Q 256
-    reached_grows below some = elim (cases_eq (size P 256) (size Q 256)) [
-      | inl e ↦ absurd (some (λ k. elim (cases_Bool (N k)) [
-        | inl n ↦ let q = either k (inr n) in absurd (both_ways (P k) (v.new k n) (size_full P Q 256 under e k (below k q) ∙ q))
-        | inr n ↦ n
-      ]))
-      | inr n ↦ let l = size_mono P Q 256 under in omega arith
-    ]
-      where
-        under : Under P Q
-        under k p = either k (inl p)
+    reached_grows below some = new_more P Q (λ k p. either k (inl p)) below (λ same. some (λ k. elim (cases_Bool (N k)) [
+      | inl n ↦ absurd (both_ways (P k) (v.new k n) (sym (same k) ∙ either k (inr n)))
+      | inr n ↦ n
+    ]))
 
   -- nothing is new: all is reached
   module _ (P N : ℕ → Bool) (v : Reached R a P N) (none : (k : ℕ) → N k ≡ false) where
@@ -76,3 +83,36 @@ module _ (R : ℕ → ℕ → Bool) (a : ℕ) where
 
     pub reached_all : (b : ℕ) → Decides (P b) (Steps (λ x y. R x y ≡ true) a b)
     reached_all b = (v.sound b, all b)
+
+-- ── One set that grows ──
+
+-- all that one step leads to, and nothing that no steps lead to
+pub record Begun (R : ℕ → ℕ → Bool) (a : ℕ) (P : ℕ → Bool) : Type 0 where
+  pub first : (b : ℕ) → R a b ≡ true → P b ≡ true
+  pub sound : (b : ℕ) → P b ≡ true → Steps (λ x y. R x y ≡ true) a b
+
+module _ (R : ℕ → ℕ → Bool) (a : ℕ) (P I Q : ℕ → Bool) (d : Begun R a P) (image : Image R P I) (union : (k : ℕ) → Q k ≡ (P k || I k)) where
+  pub reached_under : Under P Q
+  reached_under k h = union k ∙ or_left (P k) (I k) h
+
+  pub reached_on : Begun R a Q
+  reached_on = record {
+    first = λ b r. reached_under b (d.first b r);
+    sound = λ b h. elim (or_cases (P b) (I b) (sym (union b) ∙ h)) [
+      | inl p ↦ d.sound b p
+      | inr i ↦ let m = image.sound b i in steps_join (d.sound m.0 m.1) (one m.2)
+    ];
+  }
+
+  -- nothing is new: all is reached
+  module _ (same : (k : ℕ) → Q k ≡ P k) where
+    onward : (x b : ℕ) → P x ≡ true → Steps (λ x y. R x y ≡ true) x b → P b ≡ true
+    onward x b p (one r) = sym (same b) ∙ union b ∙ or_right (P b) (I b) (image.whole x b p r)
+    onward x b p (more {b = y} r s) = onward y b (sym (same y) ∙ union y ∙ or_right (P y) (I y) (image.whole x y p r)) s
+
+    every : (b : ℕ) → Steps (λ x y. R x y ≡ true) a b → P b ≡ true
+    every b (one r) = d.first b r
+    every b (more {b = y} r s) = onward y b (d.first y r) s
+
+    pub begun_all : (b : ℕ) → Decides (P b) (Steps (λ x y. R x y ≡ true) a b)
+    begun_all b = (d.sound b, every b)

@@ -9,9 +9,5 @@ use rows::Row;
 pub fn image<R: Relation>(relation: &R, from: Row) -> Row
     ensures { Image (R.holds relation.now) (member from) (member result) }
 {
-    let mut reached = Row::empty();
-    for a in from.members() {
-        reached = reached.union(relation.row(a));
-    }
-    reached
+    from.gather(|a| relation.row(a))
 }

@@ -1,5 +1,5 @@
 -- What the operations on words do to each bit.
-use Rattle.std.proofs.Common.{◌≡◌, ℕ, zero, suc, ◌-◌, ◌/◌, ◌%◌, ◌^◌, ◌<◌, Bool, true, false, not, ◌&&◌, ◌||◌, eqb, ltb, sym, refl, ap, ◌∙◌, pow-suc, div-one, arith, lit<}
+use Rattle.std.proofs.Common.{◌≡◌, ℕ, zero, suc, ◌-◌, ◌/◌, ◌%◌, ◌^◌, ◌<◌, Bool, true, false, not, ◌&&◌, ◌||◌, eqb, ltb, Some, None, sym, refl, ap, ◌∙◌, pow-suc, div-one, arith, lit<}
 use lib.Dec.{eqb-suc-suc, eqb-suc-zero}
 use lib.Bits.{bit_and, bit_or, and_mask}
 use lib.Count.{count_trailing_zeros, under}
@@ -7,6 +7,7 @@ use Rattle.std.proofs.lemmas.Nat.{and_shr, or_shr, and_mod, or_mod, mod_below, p
 use Rattle.std.proofs.lemmas.Bool.Decides.{nat_tests}
 use Rattle.std.proofs.lemmas.Bool.{eq-eqb, le-ltb, lt-ltb}
 use Rattle.rows.specs.Members.{bit}
+use Rattle.rows.specs.Steps.{NextBit}
 
 -- ---- one bit lower
 
@@ -144,6 +145,17 @@ unfolding count_trailing_zeros
 lowest_cleared zero w p q i = absurd (omega arith)
 lowest_cleared (suc k) w p q i =
     let e = pow-suc 2 k in bit-and w (w - 1) i ∙ clear_step k w (w % 2) q refl p (λ h. lowest_cleared k (w / 2) h (omega arith)) i
+
+-- ---- the bits of a word, one after the other
+
+pub no_bit : (w : ℕ) → w ≡ 0 → NextBit w None w
+no_bit w e = record { next = record { smallest = λ i. ap (λ (x : ℕ). bit x i) e ∙ bit_none i; rest = λ i. refl }; low = tt }
+
+pub next_bit : (w : ℕ) → (w ≡ 0 → ⊥) → w < 2 ^ 64 → NextBit w (Some (count_trailing_zeros 64 w)) (bit_and w (w - 1))
+next_bit w ne fit =
+    let t = lowest_set 64 w (omega arith) fit in
+    let l = t.0 in
+    record { next = record { smallest = (omega arith, t.1, t.2); rest = lowest_cleared 64 w (omega arith) fit }; low = l }
 
 -- ---- the test that the code makes
 

@@ -1,5 +1,5 @@
 -- What the operations on rows and tables do to each member.
-use Rattle.std.proofs.Common.{◌≡◌, ℕ, ◌+◌, ◌-◌, ◌*◌, ◌/◌, ◌%◌, ◌^◌, ◌<◌, ◌≤◌, min, Bool, true, false, not, ◌&&◌, ◌||◌, eqb, ltb, List, [], ◌∷◌, length, get_or, set, replicate, Some, None, subst, sym, refl, ap, ◌∙◌, inl, inr, arith}
+use Rattle.std.proofs.Common.{◌≡◌, ℕ, ◌+◌, ◌-◌, ◌*◌, ◌/◌, ◌%◌, ◌^◌, ◌<◌, ◌≤◌, min, Bool, true, false, not, ◌&&◌, ◌||◌, eqb, ltb, List, [], ◌∷◌, length, get_or, set, replicate, Some, None, subst, sym, refl, ap, ◌∙◌, ◌⊎◌, inl, inr, arith}
 use lib.Bits.{bit_and, bit_or}
 use lib.Count.{count_trailing_zeros}
 use Rattle.std.proofs.lemmas.Nat.{one_shl, pow_below}
@@ -38,7 +38,7 @@ has_nothing k = none_in (replicate 4 0) (k / 64 + 1) (λ q _. zero_at 4 q) k (om
 -- ---- an operation on two rows, word by word
 
 module _ (xs ys zs : List ℕ) (l : length xs ≡ 4) (m : length ys ≡ 4) (n : length zs ≡ 4) where
-  has_zip : (g : Bool → Bool → Bool) → g false false ≡ false
+  pub has_zip : (g : Bool → Bool → Bool) → g false false ≡ false
       → ((q i : ℕ) → q < 4 → i < 64 → bit (get_or zs q 0) i ≡ g (bit (get_or xs q 0) i) (bit (get_or ys q 0) i)) → (k : ℕ) → has zs k ≡ g (has xs k) (has ys k)
   unfolding has
   has_zip g none words k =
@@ -73,6 +73,11 @@ or_false false = refl
 and_true : (x : Bool) → (x && true) ≡ x
 and_true true = refl
 and_true false = refl
+
+-- a word with one bit more
+pub bit_added : (w b : ℕ) → b < 64 → (i : ℕ) → bit (bit_or w ((1 * 2 ^ b) % 2 ^ 64)) i ≡ (bit w i || eqb i b)
+bit_added w b h i =
+    bit-or w ((1 * 2 ^ b) % 2 ^ 64) i ∙ ap (λ (x : ℕ). bit w i || bit x i) (one_shl b 64 h) ∙ ap (λ x. bit w i || x) (bit_one b i)
 
 module _ (ws : List ℕ) (b : ℕ) (l : length ws ≡ 4) (h : b < 256) (k : ℕ) where
   pub has_with : has (set ws (b / 64) (bit_or (get_or ws (b / 64) 0) ((1 * 2 ^ (b % 64)) % 2 ^ 64))) k ≡ (has ws k || eqb k b)
@@ -129,6 +134,22 @@ pub same_rows : (xs ys : List ℕ) → length xs ≡ length ys → ((q : ℕ) �
 same_rows xs ys l f g e =
     ext_get_or 0 xs ys l
     (λ q _. same_bits 64 (get_or xs q 0) (get_or ys q 0) (f q) (g q) (λ i h. sym (has_at xs q i h) ∙ e (64 * q + i) ∙ has_at ys q i h))
+
+-- a number of the words up to q is of those before, or a bit of word q
+pub in_word : (ws : List ℕ) (q k : ℕ) (says : Bool) → k < 64 * (q + 1) → has ws k ≡ says
+    → (k < 64 * q) ⊎ ((b : ℕ) × (b < 64) × (64 * q + b ≡ k) × (bit (get_or ws q 0) b ≡ says))
+in_word ws q k says h e = elim (cases_lt k (64 * q)) [
+  | inl l ↦ inl l
+  | inr r ↦ inr (k % 64, omega arith, omega arith, sym (has_word ws q k (omega arith)) ∙ e)
+]
+
+-- after word q is written, the words before are as they were, and its members are the bits of what was written
+pub set_before : (ws : List ℕ) (q v k : ℕ) → k < 64 * q → has (set ws q v) k ≡ has ws k
+unfolding has
+set_before ws q v k h = ap (λ (x : ℕ). bit x (k % 64)) (get_or-set_other ws q (k / 64) v 0 (λ e. omega arith))
+
+pub set_at : (ws : List ℕ) (q v b : ℕ) → q < length ws → b < 64 → has (set ws q v) (64 * q + b) ≡ bit v b
+set_at ws q v b l h = has_at (set ws q v) q b h ∙ ap (λ (x : ℕ). bit x b) (get_or-set_same ws q v 0 l)
 
 -- ---- the smallest member
 
@@ -189,7 +210,7 @@ module _ (start ws : List ℕ) (q : ℕ) (e : ws ≡ start) (long : length ws �
 
 -- ---- the rows of a table after a write
 
-four_words : (ws : List ℕ) → length ws ≡ 4 → get_or ws 0 0 ∷ get_or ws 1 0 ∷ get_or ws 2 0 ∷ get_or ws 3 0 ∷ [] ≡ ws
+pub four_words : (ws : List ℕ) → length ws ≡ 4 → get_or ws 0 0 ∷ get_or ws 1 0 ∷ get_or ws 2 0 ∷ get_or ws 3 0 ∷ [] ≡ ws
 four_words [] l = absurd (omega arith)
 four_words (a ∷ []) l = absurd (omega arith)
 four_words (a ∷ b ∷ []) l = absurd (omega arith)
@@ -201,10 +222,10 @@ module _ (t : List ℕ) (p a b c d : ℕ) where
   abbrev pub put_four : List ℕ
   put_four = set (set (set (set t p a) (p + 1) b) (p + 2) c) (p + 3) d
 
-  put_others : (x : ℕ) → (x ≡ p → ⊥) → (x ≡ p + 1 → ⊥) → (x ≡ p + 2 → ⊥) → (x ≡ p + 3 → ⊥) → get_or put_four x 0 ≡ get_or t x 0
+  pub put_others : (x : ℕ) → (x ≡ p → ⊥) → (x ≡ p + 1 → ⊥) → (x ≡ p + 2 → ⊥) → (x ≡ p + 3 → ⊥) → get_or put_four x 0 ≡ get_or t x 0
   put_others x h i j k = simp get_or-set_other
 
-  put_at : p + 3 < length t → (get_or put_four p 0 ≡ a) × (get_or put_four (p + 1) 0 ≡ b) × (get_or put_four (p + 2) 0 ≡ c) × (get_or put_four (p + 3) 0 ≡ d)
+  pub put_at : p + 3 < length t → (get_or put_four p 0 ≡ a) × (get_or put_four (p + 1) 0 ≡ b) × (get_or put_four (p + 2) 0 ≡ c) × (get_or put_four (p + 3) 0 ≡ d)
   put_at h = (
     get_or-set_other _ (p + 3) p d 0 (omega arith) ∙ get_or-set_other _ (p + 2) p c 0 (omega arith) ∙ get_or-set_other _ (p + 1) p b 0 (omega arith)
         ∙ get_or-set_same t p a 0 (omega arith),

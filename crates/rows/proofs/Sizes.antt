@@ -114,7 +114,7 @@ size_split P m zero = ap (size P) (add-zero m) ∙ omega arith
 size_split P m (suc d) = ap (size P) (add-suc m d) ∙ omega (arith, size_split P m d)
 
 -- as many as the digits of a word that are 1
-size_bits : (d w : ℕ) → w < 2 ^ d → size (bit w) d ≡ ones w
+pub size_bits : (d w : ℕ) → w < 2 ^ d → size (bit w) d ≡ ones w
 unfolding size ones
 size_bits zero w h = ap ones (let z : 0 ≡ w = omega arith in z)
 size_bits (suc d) w h =

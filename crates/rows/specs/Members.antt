@@ -31,3 +31,8 @@ First P (Some b) = (b < 256) × (P b ≡ true) × ((k : ℕ) → k < b → P k �
 abbrev pub Found : (ℕ → Bool) → (ℕ → Bool → Type 0) → Option ℕ → Type 0
 Found P Says None = (k : ℕ) → P k ≡ true → Says k false
 Found P Says (Some b) = (P b ≡ true) × Says b true × ((k : ℕ) → k < b → P k ≡ true → Says k false)
+
+-- what the answers to all members have, and nothing else
+pub record Gathered (P : ℕ → Bool) (Says : ℕ → Row → Type 0) (Q : ℕ → Bool) : Type 0 where
+  pub sound : (b : ℕ) → Q b ≡ true → (k : ℕ) × (answer : Row) × (P k ≡ true) × Says k answer × (member answer b ≡ true)
+  pub whole : (k : ℕ) → P k ≡ true → (answer : Row) × Says k answer × ((b : ℕ) → member answer b ≡ true → Q b ≡ true)

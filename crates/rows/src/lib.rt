@@ -2,6 +2,7 @@
 //! Only this crate knows of words and bits; everyone else speaks of members and pairs.
 #![tactic(auto)]
 
+mod bits;
 pub mod members;
 pub mod row;
 pub mod table;

@@ -1,9 +1,10 @@
 //! A set of the numbers 0 to 255, in four words of 64 bits. Each call but those that go through the members costs a few operations on words.
-ghost use Rattle.std.specs.Prelude.{◌≡◌, ℕ, ◌<◌, ◌≤◌, min, true, false, not, ◌&&◌, ◌||◌, Decides, ◌==◌, count_ones, nat_lt, slice_index};
+ghost use Rattle.std.specs.Prelude.{◌≡◌, ℕ, ◌+◌, ◌<◌, ◌≤◌, min, true, false, not, ◌&&◌, ◌||◌, Decides, ◌==◌, count_ones, nat_lt, slice_index};
 ghost use Rattle.rows.specs.Counts.{size};
-ghost use Rattle.rows.specs.Members.{bit, member, First, Found};
+ghost use Rattle.rows.specs.Members.{bit, member, First, Found, Gathered};
 ghost use Rattle.rows.specs.Steps.{Next};
 
+use crate::bits::Bits;
 use crate::members::Members;
 use std::array;
 
@@ -111,10 +112,17 @@ impl Row {
     }
 
     /// The smallest member.
-    pub fn first(mut self) -> Option<usize>
+    // Not by `take_first`, since to write what is left takes as long again.
+    pub fn first(self) -> Option<usize>
         ensures { First (member self) result }
     {
-        self.take_first()
+        for i in 0..4 {
+            let word = self.words[i];
+            if word != 0 {
+                return Some(64 * i + word.trailing_zeros() as usize);
+            }
+        }
+        None
     }
 
     // Takes out the smallest member. It goes by index, as a look-up by `position` takes twice as long.
@@ -125,7 +133,8 @@ impl Row {
             let word = self.words[i];
             if word != 0 {
                 self.words[i] = word & (word - 1);
-                return Some(64 * i + word.trailing_zeros() as usize);
+                let taken = 64 * i + word.trailing_zeros() as usize;
+                return Some(taken);
             }
         }
         None
@@ -145,26 +154,41 @@ impl Row {
         ensures others { (k : ℕ) → member self k ≡ false → member result k ≡ false }
     {
         let mut passed = Row::empty();
-        for k in self.members() {
-            if passes(k) {
-                passed = passed.with(k);
-            }
+        for i in 0..4 {
+            passed.words[i] = filter_word(self.words[i], 64 * i, &passes);
         }
         passed
     }
 
     /// The smallest member that a test passes.
-    // A loop: in the iterator's `find` the closure has to say again what the test requires, and lemmas on its steps are needed.
+    // Loops: in the iterator's `find` the closure has to say again what the test requires, and lemmas on its steps are needed.
     pub fn find<F: Fn(usize) -> bool>(self, passes: F) -> Option<usize>
         requires { (k : ℕ) → member self k ≡ true → F.pre passes k }
         ensures { Found (member self) (λ k says. F.post passes k says) result }
     {
-        for k in self.members() {
-            if passes(k) {
-                return Some(k);
+        for i in 0..4 {
+            for b in Bits::of(self.words[i]) {
+                let k = 64 * i + b;
+                if passes(k) {
+                    return Some(k);
+                }
             }
         }
         None
+    }
+
+    /// The members of all sets that a function answers to the members.
+    pub fn gather<F: Fn(usize) -> Row>(self, row: F) -> Row
+        requires { (k : ℕ) → member self k ≡ true → F.pre row k }
+        ensures { Gathered (member self) (λ k answer. F.post row k answer) (member result) }
+    {
+        let mut all = Row::empty();
+        for i in 0..4 {
+            for b in Bits::of(self.words[i]) {
+                all = all.union(row(64 * i + b));
+            }
+        }
+        all
     }
 
     /// How many members there are.
@@ -173,6 +197,22 @@ impl Row {
     {
         self.words.iter().map(|word| ones_in(*word)).sum()
     }
+}
+
+// The bits of a word that a test passes, told the numbers from `from` on.
+fn filter_word<F: Fn(usize) -> bool>(word: u64, from: usize, passes: &F) -> u64
+    requires room { from ≤ 192 }
+    requires test { (b : ℕ) → b < 64 → bit word b ≡ true → F.pre passes.now (from + b) }
+    ensures passed { (b : ℕ) → b < 64 → bit word b ≡ true → F.post passes.now (from + b) (bit result b) }
+    ensures others { (b : ℕ) → b < 64 → bit word b ≡ false → bit result b ≡ false }
+{
+    let mut passed = 0;
+    for b in Bits::of(word) {
+        if passes(from + b) {
+            passed |= 1 << b;
+        }
+    }
+    passed
 }
 
 // How many bits of a word are set.

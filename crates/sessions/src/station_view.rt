@@ -4,7 +4,7 @@ ghost use Rattle.rows.specs.Members.{member};
 ghost use Rattle.sessions.specs.Listings.{StationRead};
 ghost use Rattle.violations.specs.Views.{operations_of};
 
-use crate::stations::station_reads;
+use crate::stations::{is_station_read, station_reads};
 use rows::Row;
 use violations::View;
 
@@ -21,5 +21,12 @@ impl StationView<'_, '_> {
         ensures { (k : ℕ) → Decides (member result k) (StationRead (operations_of self.entry.view) self.entry.last k) }
     {
         station_reads(self.view.recording, self.last)
+    }
+
+    // Whether a number names such a read.
+    pub(crate) fn has_read(self, number: usize) -> bool
+        ensures { Decides result (StationRead (operations_of self.entry.view) self.entry.last number) }
+    {
+        is_station_read(self.view.recording, self.last, number)
     }
 }

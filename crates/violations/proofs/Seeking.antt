@@ -1,8 +1,8 @@
 -- What is not found below a number, and what is found first.
-use Rattle.std.proofs.Common.{◌≡◌, ℕ, ◌+◌, ◌<◌, Bool, true, false, ◌&&◌, Some, None, Decides, Option, sym, refl, ◌∙◌, subst, inl, inr, true≢false, arith}
+use Rattle.std.proofs.Common.{◌≡◌, ℕ, ◌+◌, ◌<◌, Bool, true, false, not, ◌&&◌, Some, None, Decides, Option, sym, refl, ap, ◌∙◌, subst, inl, inr, true≢false, arith}
 use Rattle.std.proofs.lemmas.Bool.{cases_eq, and_parts}
 use Rattle.rows.specs.declared.row.Row.{Row}
-use Rattle.rows.specs.Members.{member, First}
+use Rattle.rows.specs.Members.{member}
 use Rattle.violations.specs.declared.evidence.Rivals.{Rivals}
 use Rattle.violations.specs.Firsts.{Smallest, SmallestRivals}
 use Rattle.violations.specs.Overtaking.{Says, FoundRival, FoundRivals}
@@ -38,14 +38,19 @@ smallest_rivals Q P A Answered (Some t) f q p d = (
   λ w x l h. let z = p t.read w x h in lacked (A w) (Answered w) (d w) x (f.3 w x l z.0) z.1,
 )
 
--- where both are not, and the second is, the first is not
-first_not : (a b : Bool) → (a && b) ≡ false → b ≡ true → a ≡ false
-first_not true b h e = sym e ∙ h
-first_not false b h e = refl
+-- P does not hold below a number: where it holds, and the set of the row's members from that number on lacks it, the row lacks it
+absent : (P : ℕ → Type 0) (row : Row) (M B : ℕ → Bool) (first : ℕ) → ((k : ℕ) → M k ≡ (member row k && not (B k))) → ((k : ℕ) → B k ≡ true → k < first)
+    → ((k : ℕ) → k < first → ¬ P k) → (x : ℕ) → P x → ¬ (M x ≡ true) → member row x ≡ false
+absent P row M B first e b before x p m = go (member row x) (B x) refl refl
+  where
+    go : (u v : Bool) → member row x ≡ u → B x ≡ v → u ≡ false
+    go false v h k = refl
+    go true true h k = absurd (before x (b x k) p)
+    go true false h k = absurd (m (e x ∙ ap (λ z. z && not (B x)) h ∙ ap not k))
 
--- the first number that both sets have is the smallest rival in the answered row
-pub rival_found : (P : ℕ → Type 0) (Answered : Row → Type 0) (row : Row) (M B : ℕ → Bool) (r : Option ℕ) → First B r → ((k : ℕ) → B k ≡ (member row k && M k)) → ((k : ℕ) → Decides (M k) (P k)) → Answered row → FoundRival P Answered r
-rival_found P Answered row M B None f e d a = λ x p. (row, a, first_not (member row x) (M x) (sym (e x) ∙ f x) ((d x).1 p))
-rival_found P Answered row M B (Some n) f e d a =
-    let z = and_parts (member row n) (M n) (sym (e n) ∙ f.1) in
-    ((d n).0 z.1, (row, a, z.0), λ y l p. (row, a, first_not (member row y) (M y) (sym (e y) ∙ f.2 y l) ((d y).1 p)))
+-- the first rival that is found in the answered row from the first rival on is the first of all
+pub rival_found : (P : ℕ → Type 0) (Answered : Row → Type 0) (row : Row) (M B : ℕ → Bool) (Yes No : ℕ → Type 0) (first : ℕ) (r : Option ℕ) → FoundFirst M Yes No r
+    → ((k : ℕ) → M k ≡ (member row k && not (B k))) → ((k : ℕ) → B k ≡ true → k < first) → ((k : ℕ) → k < first → ¬ P k) → ((k : ℕ) → Yes k → P k) → ((k : ℕ) → No k → ¬ P k) → Answered row → FoundRival P Answered r
+rival_found P Answered row M B Yes No first None f e b before y n a = λ x p. (row, a, absent P row M B first e b before x p (λ m. n x (f x m) p))
+rival_found P Answered row M B Yes No first (Some k) f e b before y n a =
+    (y k f.1, (row, a, (and_parts (member row k) (not (B k)) (sym (e k) ∙ f.0)).0), λ x l p. (row, a, absent P row M B first e b before x p (λ m. n x (f.2 x l m) p)))

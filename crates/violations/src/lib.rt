@@ -5,6 +5,7 @@ pub mod conflicts;
 pub mod evidence;
 pub mod overtaken;
 pub mod rivals;
+pub mod sight;
 pub mod sourceless;
 pub mod view;
 pub mod written;

@@ -51,10 +51,9 @@ impl View<'_, '_> {
         requires after { F.IsAlwaysCallable after.now }
         ensures { FoundRival (Rival (operations_of self.entry) (seen_of self.entry) read source) (λ row. F.post after.entry.now source row) result }
     {
-        let rivals = self.rivals_of(read, source);
-        if rivals.is_empty() {
-            return None;
-        }
-        after(source).intersection(rivals).first()
+        let first = self.first_rival(read, source)?;
+        after(source)
+            .difference(Row::below(first))
+            .find(|other| self.is_rival(read, source, other))
     }
 }

@@ -2,6 +2,7 @@
 ghost use Rattle.std.specs.Prelude.{ℕ, ◌&&◌, Decides, ◌==◌, nat_lt};
 ghost use Rattle.recording.specs.Operations.{SourceOf};
 ghost use Rattle.rows.specs.Members.{member};
+ghost use Rattle.violations.specs.Firsts.{Smallest};
 ghost use Rattle.violations.specs.Views.{operations_of, seen_of};
 ghost use Rattle.violations.specs.Violations.{Rival};
 
@@ -31,8 +32,22 @@ impl View<'_, '_> {
         requires { SourceOf (operations_of self) source read }
         ensures { (k : ℕ) → Decides (member result k) (Rival (operations_of self.entry) (seen_of self.entry) read source k) }
     {
-        Row::below(self.recording.count())
-            .without(source)
-            .filter(|other| self.sees(read, other))
+        Row::below(self.recording.count()).filter(|other| self.is_rival(read, source, other))
+    }
+
+    // The smallest such write.
+    pub(crate) fn first_rival(self, read: usize, source: usize) -> Option<usize>
+        requires { SourceOf (operations_of self) source read }
+        ensures { Smallest (Rival (operations_of self.entry) (seen_of self.entry) read source) result }
+    {
+        Row::below(self.recording.count()).find(|other| self.is_rival(read, source, other))
+    }
+
+    // Whether a number names such a write.
+    pub(crate) fn is_rival(self, read: usize, source: usize, other: usize) -> bool
+        requires { SourceOf (operations_of self) source read }
+        ensures { Decides result (Rival (operations_of self.entry) (seen_of self.entry) read source other) }
+    {
+        other != source && self.sees(read, other)
     }
 }

@@ -17,7 +17,7 @@ same_draft : (x y : List ℕ) (done done' : List (List Letter)) (cur cur' : List
 same_draft x y done done' cur cur' e p q d = subst (λ l. Drafted l done' cur') e (subst (λ l. Drafted x l cur') p (subst (λ l. Drafted x done l) q d))
 
 -- a byte that is taken goes on with the draft
-taken_on : (bytes : List ℕ) (done done' : List (List Letter)) (cur cur' : List Letter) (b : ℕ) → Drafted bytes done cur → Taken done cur b (Ok tt) done' cur' → Drafted (bytes ++ b ∷ []) done' cur'
+pub taken_on : (bytes : List ℕ) (done done' : List (List Letter)) (cur cur' : List Letter) (b : ℕ) → Drafted bytes done cur → Taken done cur b (Ok tt) done' cur' → Drafted (bytes ++ b ∷ []) done' cur'
 taken_on bytes done done' cur cur' b d (inl (l, e, t)) =
     same_draft (bytes ++ code l ∷ []) (bytes ++ b ∷ []) done done' (cur ++ l ∷ []) cur' (ap (λ x. bytes ++ x ∷ []) (sym e)) (sym t.1) (sym t.2) (draft_letter bytes done cur l d t.0)
 taken_on bytes done done' cur cur' b d (inr (inl (e, t))) =
@@ -25,7 +25,7 @@ taken_on bytes done done' cur cur' b d (inr (inl (e, t))) =
 taken_on bytes done done' cur cur' b d (inr (inr t)) = cc
 
 -- one that is not taken is fatal
-refused_fatal : (done done' : List (List Letter)) (cur cur' : List Letter) (b : ℕ) (e : Refused) → Taken done cur b (Err e) done' cur' → Fatal done cur b
+pub refused_fatal : (done done' : List (List Letter)) (cur cur' : List Letter) (b : ℕ) (e : Refused) → Taken done cur b (Err e) done' cur' → Fatal done cur b
 refused_fatal done done' cur cur' b r (inl (l, e, t)) = inl ((l, e), t.0)
 refused_fatal done done' cur cur' b r (inr (inl (e, t))) = inr (inl (e, t.0))
 refused_fatal done done' cur cur' b r (inr (inr t)) = inr (inr (λ byte. elim byte [
@@ -36,7 +36,7 @@ refused_fatal done done' cur cur' b r (inr (inr t)) = inr (inr (λ byte. elim by
   ]
 ]))
 
-misspelt_at : (bytes : List ℕ) (place : ℕ) (done : List (List Letter)) (cur : List Letter) → place < length bytes → Drafted (take place bytes) done cur → Fatal done cur (get_or bytes place 0) → Misspelt bytes place
+pub misspelt_at : (bytes : List ℕ) (place : ℕ) (done : List (List Letter)) (cur : List Letter) → place < length bytes → Drafted (take place bytes) done cur → Fatal done cur (get_or bytes place 0) → Misspelt bytes place
 misspelt_at bytes place done cur h d f = record {
   within = omega arith;
   begins = draft_begins (take place bytes) done cur d;
@@ -55,13 +55,13 @@ module _ (bytes : List ℕ) (place : ℕ) (done done' : List (List Letter)) (cur
   refused_at (Err e) err t = misspelt_at bytes place done cur inside d (refused_fatal done done' cur cur' (get_or bytes place 0) e t)
 
 -- what is finished is spelled by the bytes
-finished_spelled : (bytes : List ℕ) (done : List (List Letter)) (cur : List Letter) (t : TermList) → Drafted bytes done cur → Finished done cur (Some t) → LawfulTerms (terms_of t) × (spell (terms_of t) ≡ bytes)
+pub finished_spelled : (bytes : List ℕ) (done : List (List Letter)) (cur : List Letter) (t : TermList) → Drafted bytes done cur → Finished done cur (Some t) → LawfulTerms (terms_of t) × (spell (terms_of t) ≡ bytes)
 finished_spelled bytes done cur t d (inl (some, e)) = subst (λ ts. LawfulTerms ts × (spell ts ≡ bytes)) (sym e) (whole_spelled bytes done cur d some)
 finished_spelled bytes done cur t d (inr (none, nothing, e)) =
     let z = same_draft bytes bytes done [] cur [] refl nothing none d in
     subst (λ ts. LawfulTerms ts × (spell ts ≡ bytes)) (sym e) (record { few = omega arith; each = tt }, sym z.is)
 
-misspelt_end : (bytes : List ℕ) (done : List (List Letter)) (cur : List Letter) → Drafted bytes done cur → Finished done cur None → Misspelt bytes (length bytes)
+pub misspelt_end : (bytes : List ℕ) (done : List (List Letter)) (cur : List Letter) → Drafted bytes done cur → Finished done cur None → Misspelt bytes (length bytes)
 misspelt_end bytes done cur d f = record {
   within = omega arith;
   begins = subst Begins (sym (take-length bytes)) (draft_begins bytes done cur d);

@@ -12,9 +12,9 @@ pub filled_mono : (t u : List ℕ) → Inside (related t) (related u) → filled
 filled_mono t u i = size_mono (λ k. related t (k / 256) (k % 256)) (λ k. related u (k / 256) (k % 256)) 65536 (λ k h. i (k / 256) (k % 256) h)
 
 module _ (D : Rel → ℕ → ℕ → Type 0) where
-  -- the rows from mid on, and then the one below
-  pub grown_then : (low mid high : ℕ) (t u v : List ℕ) (x y : Bool) → mid ≡ low + 1 → Grown D mid high t u x → Grown D low (low + 1) u v y → Grown D low high t v (x || y)
-  grown_then low mid high t u v x y next p q = record {
+  -- the rows from mid on, and then those below
+  pub grown_then : (low mid high : ℕ) (t u v : List ℕ) (x y : Bool) → Grown D mid high t u x → Grown D low mid u v y → Grown D low high t v (x || y)
+  grown_then low mid high t u v x y p q = record {
     long = q.long;
     holds = λ a b h. q.holds a b (p.holds a b h);
     within = λ S i c. q.within S (p.within S i c) c;
@@ -25,13 +25,17 @@ module _ (D : Rel → ℕ → ℕ → Type 0) where
           | inr s ↦ p.closed e.0 a b s m d
           | inl s ↦
               let z = p.same e.0 in
-              subst (λ (w : List ℕ). related w a b ≡ true) z (q.closed e.1 a b l (omega arith) (subst (λ (w : List ℕ). D (related w) a b) (sym z) d))
+              subst (λ (w : List ℕ). related w a b ≡ true) z (q.closed e.1 a b l s (subst (λ (w : List ℕ). D (related w) a b) (sym z) d))
         ];
     more = λ h.
         let i = filled_mono t u p.holds in
         let j = filled_mono u v q.holds in
         elim (or_cases x y h) [ inl r ↦ omega (arith, p.more r) | inr r ↦ omega (arith, q.more r) ];
   }
+
+  -- the rows from mid on, and then the one below
+  pub grown_next : (low mid high : ℕ) (t u v : List ℕ) (x y : Bool) → mid ≡ low + 1 → Grown D mid high t u x → Grown D low (low + 1) u v y → Grown D low high t v (x || y)
+  grown_next low mid high t u v x y next p q = grown_then low mid high t u v x y p (subst (λ k. Grown D low k u v y) (sym next) q)
 
   -- a round that changed nothing ends in the least closed relation
   pub grown_least : (n : ℕ) → ((Q : Rel) (a b : ℕ) → D Q a b → a < n) → (t u v : List ℕ) (x : Bool) → Inside (related t) (related u)

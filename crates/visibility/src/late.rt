@@ -43,7 +43,9 @@ impl Rule for Late {
         let mut later = sight.outline.later(a).members();
         // Not by `skip`, since what is wanted is the set that is left.
         for _ in 1..self.distance {
-            later.next();
+            if later.next().is_none() {
+                break;
+            }
         }
         later.left
     }

@@ -31,7 +31,14 @@ pub trait Rule {
     fn demanded(&self, sight: Sight<'_, '_>, a: usize) -> Row
         ensures { (b : ℕ) → Decides (member result b) (Asked (demands self.now) (shapes_in sight.entry) (seen_in sight.entry) a b) }
     {
-        Row::below(256).filter(|b| self.asks(sight, a, b))
+        // A loop, since through `filter` a rule with a cheap `asks` takes twice as long.
+        let mut demanded = Row::empty();
+        for b in 0..256 {
+            if self.asks(sight, a, b) {
+                demanded = demanded.with(b);
+            }
+        }
+        demanded
     }
 
     /// The law: what is demanded under a visibility is demanded under every one that contains it.

@@ -10,9 +10,9 @@ use Rattle.words.specs.declared.loading.LoadRefusal.TheVariants.{Reader, Recordi
 use Rattle.words.specs.Layout.{Said, opening, write, read, note, closing, kind_of, says}
 use Rattle.words.specs.declared.record.Placed.{Placed}
 use Rattle.words.specs.Reading.{Reading, ground_of, said_at, width_of, pass, heard, Next}
-use Rattle.words.specs.Loading.{Heard, Means, ToldAnswer, LoadsFrom}
+use Rattle.words.specs.Loading.{Heard, Means, tell_ground, told, ToldAnswer, LoadsFrom}
 
-width_some : (s : Said) → 1 ≤ width_of s
+pub width_some : (s : Said) → 1 ≤ width_of s
 width_some (opening stations) = omega arith
 width_some (write station register value) = omega arith
 width_some (read station register value) = omega arith
@@ -42,6 +42,26 @@ means_within (suc n) r few = means_step r (ground_of r) refl r.rest refl (λ s s
 pub means_something : (r : Reading) → Meaning r
 means_something r = means_within (length r.rest) r (omega arith)
 
+-- an accepted record is told, and the load goes on behind it
+pub record_told : (r : Reading) (before : Recorded) (s : Said) (answer : Result ℕ LoadRefusal) (after : Recorded)
+    → ground_of r ≡ None → said_at r.rest ≡ Some s → tell_ground before s ≡ None
+    → LoadsFrom (pass r s) (told before s) answer after → LoadsFrom r before answer after
+record_told r before s answer after e at ok more = (record { place = r.place; said = s } ∷ more.0, more.1, (e, at, refl, more.2), inl (ok, more.3))
+
+-- a refused record, a fault of the words, or their end is the end of it
+pub record_refused : (r : Reading) (before : Recorded) (s : Said) (refusal : Refusal)
+    → ground_of r ≡ None → said_at r.rest ≡ Some s → tell_ground before s ≡ Some refusal
+    → LoadsFrom r before (Err (Recording refusal r.place)) before
+record_refused r before s refusal e at no' =
+    let rest = means_something (pass r s) in
+    (record { place = r.place; said = s } ∷ rest.0, rest.1, (e, at, refl, rest.2), inr (refusal, no', refl, refl))
+
+pub words_misread : (r : Reading) (before : Recorded) (e : Misread) → ground_of r ≡ Some e.fault → e.place ≡ r.place → LoadsFrom r before (Err (Reader e)) before
+words_misread r before e g p = ([], Some e, (g, p), (refl, refl))
+
+pub words_ended : (r : Reading) (before : Recorded) → ground_of r ≡ None → r.rest ≡ [] → LoadsFrom r before (Ok (length before.operations)) before
+words_ended r before g e = ([], None, (g, e), (refl, refl))
+
 -- the answer to a record at that place, as the load's
 abbrev pub passed : ℕ → Result (Unit {0}) Refusal → Result (Unit {0}) LoadRefusal
 passed place told = result_map_both (λ u. u) (λ e. Recording e place) told
@@ -56,8 +76,7 @@ passed_on place (Err e) (Err x) Q cases at = ap Err (at e x cases)
 pub loads_more : (r r' : Reading) (b b' : Recorded) (p : Placed) (told : Result (Unit {0}) Refusal) (u : Unit {0}) (answer : Result ℕ LoadRefusal) (after : Recorded)
     → Next r (Ok (Some p)) r' → ToldAnswer b (heard p.record) told b' → passed p.place told ≡ Ok u → LoadsFrom r' b' answer after → LoadsFrom r b answer after
 loads_more r r' b b' p (Ok v) u answer after next taken is more =
-    let on = subst₂ (λ z a. LoadsFrom z a answer after) next.3 taken.1 more in
-    (record { place = r.place; said = heard p.record } ∷ on.0, on.1, (next.0, next.1, refl, on.2), inl (taken.0, on.3))
+    record_told r b (heard p.record) answer after next.0 next.1 taken.0 (subst₂ (λ z a. LoadsFrom z a answer after) next.3 taken.1 more)
 loads_more r r' b b' p (Err e) u answer after next taken is more = absurd (cc is)
 
 -- it ends at a refused record, at a fault of the words, or with them
@@ -69,7 +88,7 @@ loads_refused r r' b b' p (Err f) e next refused is =
     (record { place = p.place; said = heard p.record } ∷ rest.0, rest.1, (next.0, next.1, next.2, rest.2), inr (f, refused.0, cc is, refused.1))
 
 pub loads_fault : (r r' : Reading) (b : Recorded) (e : Misread) → Next r (Err e) r' → LoadsFrom r b (Err (Reader e)) b
-loads_fault r r' b e next = ([], Some e, (next.0, next.1), (refl, refl))
+loads_fault r r' b e next = words_misread r b e next.0 next.1
 
 pub loads_all : (r r' : Reading) (b : Recorded) → Next r (Ok None) r' → LoadsFrom r b (Ok (length b.operations)) b
-loads_all r r' b next = ([], None, (next.0, next.1), (refl, refl))
+loads_all r r' b next = words_ended r b next.0 next.1

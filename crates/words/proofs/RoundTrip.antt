@@ -160,19 +160,15 @@ long : (r : Recorded) → length (words_of r) ≡ length r.operations + 2
 long r = omega (arith, length-append (map operation_word r.operations) (closing_word (length r.operations) ∷ []), length-map r.operations operation_word)
 
 -- a recording with so many stations, whose operations keep what holds of every recording
-loads_back : (r : Recorded) → 1 ≤ r.stations → r.stations ≤ 16 → Lawful r.stations r.operations → LoadsBack r
-loads_back r some most lawful before answer after (inl t) = absurd (omega (arith, t.0, long r, lawful.few))
-loads_back r some most lawful before answer after (inr t) =
-    loads_rest r.stations most r.operations lawful r.operations [] 0 1 answer after refl refl (loads_opening r.stations r.operations before answer after some most t.1)
+pub loads_back : (r : Recorded) → 1 ≤ r.stations → r.stations ≤ 16 → length r.operations ≤ 256 → InRange r.stations r.operations → NonZero r.operations → Apart r.operations
+    → LoadsBack r
+loads_back r some most few range nonzero apart before answer after (inl t) = absurd (omega (arith, t.0, long r))
+loads_back r some most few range nonzero apart before answer after (inr t) =
+    loads_rest r.stations most r.operations (record { few = few; range = range; nonzero = nonzero; apart = apart }) r.operations [] 0 1 answer after refl refl
+    (loads_opening r.stations r.operations before answer after some most t.1)
 
 pub recording_loads_back : (r : Recording) → LoadsBack (recorded r)
-recording_loads_back r =
-    loads_back (recorded r) r.some r.most (record {
-      few = r.few;
-      range = r.range;
-      nonzero = r.nonzero;
-      apart = r.apart;
-    })
+recording_loads_back r = loads_back (recorded r) r.some r.most r.few r.range r.nonzero r.apart
 
 -- a load of the words that were saved
 pub copied : (r : Recording) (n : ℕ) (before after : List ℕ) (b : Recorded) (answer : Result ℕ LoadRefusal) (a : Recorded)

@@ -16,15 +16,16 @@ pub closing_spelled : (count : ℕ) → count < 2 ^ 29 → bit_or (7 * 2 ^ 29) c
 closing_spelled count h = or_shifted 7 29 count h
 
 -- kind, station, register and value side by side
-side_by_side : (k s r v : ℕ) → k < 4 → s < 16 → r < 64 → v < 2 ^ 19
-    → bit_or (bit_or (bit_or (k * 2 ^ 30) (s * 2 ^ 25 % 2 ^ 32)) (r * 2 ^ 19 % 2 ^ 32)) v ≡ k * 2 ^ 30 + s * 2 ^ 25 + r * 2 ^ 19 + v
+pub side_by_side : (k s r v : ℕ) → k < 4 → s < 16 → r < 64 → v < 2 ^ 19
+    → bit_or (bit_or (bit_or (k * 2 ^ 30 % 2 ^ 32) (s * 2 ^ 25 % 2 ^ 32)) (r * 2 ^ 19 % 2 ^ 32)) v ≡ k * 2 ^ 30 + s * 2 ^ 25 + r * 2 ^ 19 + v
 side_by_side k s r v hk hs hr hv =
+    let top : k * 2 ^ 30 % 2 ^ 32 ≡ k * 2 ^ 30 = mod-eq_of_lt (omega arith) in
     let station : s * 2 ^ 25 % 2 ^ 32 ≡ s * 2 ^ 25 = mod-eq_of_lt (omega arith) in
     let reg : r * 2 ^ 19 % 2 ^ 32 ≡ r * 2 ^ 19 = mod-eq_of_lt (omega arith) in
     let one : bit_or (k * 2 ^ 30) (s * 2 ^ 25) ≡ (k * 32 + s) * 2 ^ 25 = or_shifted k 30 (s * 2 ^ 25) (omega arith) ∙ omega arith in
     let two : bit_or ((k * 32 + s) * 2 ^ 25) (r * 2 ^ 19) ≡ ((k * 32 + s) * 64 + r) * 2 ^ 19 = or_shifted (k * 32 + s) 25 (r * 2 ^ 19) (omega arith) ∙ omega arith in
     let three : bit_or (((k * 32 + s) * 64 + r) * 2 ^ 19) v ≡ k * 2 ^ 30 + s * 2 ^ 25 + r * 2 ^ 19 + v = or_shifted ((k * 32 + s) * 64 + r) 19 v hv ∙ omega arith in
-    rw (station, reg, one, two) three
+    rw (top, station, reg, one, two) three
 
 pub operation_spelled : (k : Kind) (s r v : ℕ) → s < 16 → r < 64 → v < 2 ^ 19
     → bit_or (bit_or (bit_or (blank (kind_word k)) (s * 2 ^ 25 % 2 ^ 32)) (r * 2 ^ 19 % 2 ^ 32)) v ≡ blank (kind_word k) + s * 2 ^ 25 + r * 2 ^ 19 + v
@@ -40,7 +41,7 @@ pub rest_more : (ws base : List ℕ) (i w : ℕ) → drop i ws ≡ drop i base �
 rest_more ws base i w e = drop-set-lt (i + 1) ws i w (omega arith) ∙ sym (drop-drop 1 i ws) ∙ ap (drop 1) e ∙ drop-drop 1 i base
 
 -- the last word, and what the whole is then
-whole : (ws base front : List ℕ) (n w : ℕ) → n < length ws → take n ws ≡ front → drop n ws ≡ drop n base → set ws n w ≡ (front ++ w ∷ []) ++ drop (n + 1) base
+pub whole : (ws base front : List ℕ) (n w : ℕ) → n < length ws → take n ws ≡ front → drop n ws ≡ drop n base → set ws n w ≡ (front ++ w ∷ []) ++ drop (n + 1) base
 whole ws base front n w h f r = sym (take-append-drop (n + 1) (set ws n w)) ∙ (λ i. front_more ws front n w h f i ++ rest_more ws base n w r i)
 
 pub saved : (r : Recorded) (before ws : List ℕ) (n : ℕ) → n ≡ length r.operations → n + 1 < length ws

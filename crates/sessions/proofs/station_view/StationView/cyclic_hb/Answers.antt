@@ -1,13 +1,7 @@
-use Rattle.std.proofs.Common.{rules}
-use Rattle.violations.specs.Explained.{In}
-use Rattle.violations.specs.Views.{operations_of, seen_of}
-use Rattle.violations.proofs.Seeking.{smallest_rivals}
-use Rattle.sessions.specs.Happening.{CyclicHb}
+use Rattle.std.proofs.Common.{arith}
 use Rattle.sessions.proofs.station_view.StationView.cyclic_hb.Goals as goal
 
-pub returns : goal.returns
-returns c =
-    let ops = operations_of c.args.self.view in
-    let H = seen_of c.args.self.view in
-    smallest_rivals (CyclicHb ops c.args.self.last H) _ (In H) _ c.overtaken.result c.overtaken.ensures (λ r w x p s. record { own = (c.reads.ensures r).0 p.0; rival = p.1; after = s })
-    (λ r w x b. (((c.reads.ensures r).1 b.own, b.rival), b.after)) (λ w row s x. search rules)
+pub returns-in-Some : goal.returns-in-Some
+returns-in-Some c =
+    let f = c.in-Some.ensures in
+    (f.0.1, λ k w x h. c.loop-read.invariant k w x (let e = f.0.0 in omega arith), λ w x h p. f.2 w x h (f.0.0, p))
